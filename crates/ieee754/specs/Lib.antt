@@ -1,0 +1,5 @@
+pub mod Operations
+pub mod Root
+pub mod RootLaws
+pub mod RootNearest
+pub mod Single

@@ -1,0 +1,17 @@
+-- `random::wrapping_mul` meets its contract: the product of two numbers of 32 bits fits 64. Assumes nothing.
+use borrow.Author.Needs.{needs}
+use Rattle.random.proofs.Product.{product-fits}
+use Rattle.random.proofs.wrapping_mul.Statement.{statement}
+use Rattle.random.proofs.wrapping_mul.Tie as tie
+
+mul-product : tie.Need-mul-product
+mul-product c = record { fits = product-fits 32 (search needs) (search needs) }
+
+cast-result : tie.Need-cast-result
+cast-result c = search needs
+
+returns : tie.Need-returns
+returns c = search needs
+
+pub wrapping-mul-spec : {M : Type 1} → statement M
+wrapping-mul-spec = tie.close (tie.spec mul-product cast-result returns)

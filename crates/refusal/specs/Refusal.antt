@@ -1,0 +1,49 @@
+-- Refusals, their numbers, and the questions that several routines ask. Definitions only.
+use Prim.Native.Nat.{ℕ, _^_}
+use mathlib.Core.Bool.{Bool, true, false, _&&_}
+use lib.Dec.{leb}
+use lib.Ieee.{Float, binary32, le, round}
+use Rattle.ieee754.specs.Single.{decimal}
+use Rattle.refusal.specs.declared.Refusal.{Refusal}
+use Rattle.refusal.specs.declared.Refusal.the-variants.{SampleRate, BlockLength, Frequency, Accent, Knob, Pitch, FirstLine, CueLine, CueStart, CueCount, BufferLength}
+use Rattle.refusal.specs.declared.Answer.{Answer}
+use Rattle.refusal.specs.declared.Answer.the-variants.{Refused}
+
+-- the number that a user sees
+abbrev pub number : Refusal → ℕ
+number SampleRate = 1
+number BlockLength = 2
+number Frequency = 3
+number Accent = 4
+number Knob = 5
+number Pitch = 6
+number FirstLine = 7
+number CueLine = 8
+number CueStart = 9
+number CueCount = 10
+number BufferLength = 11
+
+-- a question, and the answer of the questions after it: the first that does not pass decides
+abbrev pub ask : Bool → Refusal → Answer → Answer
+ask true refusal next = next
+ask false refusal next = Refused refusal
+
+-- a number from low to high: no comparison with a NaN holds
+unfoldable pub within : Float → Float → Float → Bool
+within low high x = le low x && le x high
+
+-- 1: a number from 16000.0 to 96000.0
+unfoldable pub isSampleRate : Float → Bool
+isSampleRate x = within (decimal 16000 0) (decimal 96000 0) x
+
+-- 2: at most 16,384 samples
+abbrev pub isBlockLength : ℕ → Bool
+isBlockLength samples = leb samples 16384
+
+-- 3: a number from 2^-20 to 0.5
+unfoldable pub isFrequency : Float → Bool
+isFrequency f0 = within (round binary32 false 1 (2 ^ 20)) (decimal 5 1) f0
+
+-- 4 and 5: a number from 0.0 to 1.0; -0.0 equals 0.0 and is one
+unfoldable pub isUnit : Float → Bool
+isUnit x = within (decimal 0 0) (decimal 1 0) x

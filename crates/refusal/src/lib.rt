@@ -1,0 +1,86 @@
+// What a call answers: accepted, or refused by the first question that it does not pass; and the questions that several routines ask.
+ghost use mathlib.Core.Path.{_≡_};
+ghost use Rattle.refusal.specs.Refusal as spec;
+
+// The questions, by what they ask for, in the order of their numbers.
+pub enum Refusal {
+    SampleRate,
+    BlockLength,
+    Frequency,
+    Accent,
+    Knob,
+    Pitch,
+    FirstLine,
+    CueLine,
+    CueStart,
+    CueCount,
+    BufferLength,
+}
+
+pub enum Answer {
+    Accepted,
+    Refused(Refusal),
+}
+
+impl Refusal {
+    pub fn number(self) -> u32
+        ensures { λ r. ⌜ r ≡ spec.number self ⌝ }
+    {
+        match self {
+            Refusal::SampleRate => 1,
+            Refusal::BlockLength => 2,
+            Refusal::Frequency => 3,
+            Refusal::Accent => 4,
+            Refusal::Knob => 5,
+            Refusal::Pitch => 6,
+            Refusal::FirstLine => 7,
+            Refusal::CueLine => 8,
+            Refusal::CueStart => 9,
+            Refusal::CueCount => 10,
+            Refusal::BufferLength => 11,
+        }
+    }
+}
+
+// One question: the refusal where it does not pass, and the answer of the questions after it where it does.
+pub fn ask(passes: bool, refusal: Refusal, next: Answer) -> Answer
+    ensures { λ r. ⌜ r ≡ spec.ask passes refusal next ⌝ }
+{
+    if passes {
+        next
+    } else {
+        Answer::Refused(refusal)
+    }
+}
+
+fn within(low: f32, high: f32, x: f32) -> bool
+    ensures { λ r. ⌜ r ≡ spec.within low high x ⌝ }
+{
+    low <= x && x <= high
+}
+
+pub fn is_sample_rate(x: f32) -> bool
+    ensures { λ r. ⌜ r ≡ spec.isSampleRate x ⌝ }
+{
+    within(16000.0, 96000.0, x)
+}
+
+pub fn is_block_length(samples: usize) -> bool
+    ensures { λ r. ⌜ r ≡ spec.isBlockLength samples ⌝ }
+{
+    samples <= 16384
+}
+
+// The smallest frequency is 2^-20, written out.
+pub fn is_frequency(f0: f32) -> bool
+    ensures { λ r. ⌜ r ≡ spec.isFrequency f0 ⌝ }
+{
+    within(0.00000095367431640625, 0.5, f0)
+}
+
+// Accent and the other knobs.
+pub fn is_unit(x: f32) -> bool
+    ensures { λ r. ⌜ r ≡ spec.isUnit x ⌝ }
+{
+    within(0.0, 1.0, x)
+}

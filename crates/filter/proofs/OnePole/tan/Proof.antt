@@ -1,0 +1,30 @@
+-- `filter::OnePole::tan` meets its contract. Assumes nothing.
+use borrow.Author.Needs.{needs}
+use lib.Ieee.{round, ofBits, mul}
+use Rattle.filter.specs.OnePole.{tan}
+use Rattle.filter.proofs.OnePole.tan.Statement.{statement}
+use Rattle.filter.proofs.OnePole.tan.Tie as tie
+
+enum-told : tie.Need-enum-told
+enum-told c = search needs
+
+enum-told-2 : tie.Need-enum-told-2
+enum-told-2 c = search needs
+
+enum-told-3 : tie.Need-enum-told-3
+enum-told-3 c = search needs
+
+returns : tie.Need-returns
+unfolding tan round ofBits mul
+returns c = rw (c .enum-told .given .1)
+
+returns-2 : tie.Need-returns-2
+unfolding tan round ofBits mul
+returns-2 c = rw (c .enum-told2 .given .1)
+
+returns-3 : tie.Need-returns-3
+unfolding tan round ofBits mul
+returns-3 c = rw (c .enum-told3 .given .1)
+
+pub tan-spec : {M : Type 1} → statement M
+tan-spec = tie.close (tie.spec enum-told enum-told-2 enum-told-3 returns returns-2 returns-3)

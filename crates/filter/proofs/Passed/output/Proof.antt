@@ -1,0 +1,38 @@
+-- `filter::Passed::output` meets its contract. Assumes nothing.
+use borrow.Author.Needs.{needs}
+use Rattle.filter.specs.Svf.{output}
+use Rattle.filter.proofs.Passed.output.Statement.{statement}
+use Rattle.filter.proofs.Passed.output.Tie as tie
+
+enum-told : tie.Need-enum-told
+enum-told c = search needs
+
+enum-told-2 : tie.Need-enum-told-2
+enum-told-2 c = search needs
+
+enum-told-3 : tie.Need-enum-told-3
+enum-told-3 c = search needs
+
+enum-told-4 : tie.Need-enum-told-4
+enum-told-4 c = search needs
+
+returns : tie.Need-returns
+unfolding output
+returns c = rw (c .enum-told .given .1)
+
+returns-2 : tie.Need-returns-2
+unfolding output
+returns-2 c = rw (c .enum-told2 .given .1)
+
+returns-3 : tie.Need-returns-3
+unfolding output
+returns-3 c = rw (c .before .enum-told3 .given .1)
+
+returns-4 : tie.Need-returns-4
+unfolding output
+returns-4 c = rw (c .enum-told4 .given .1)
+
+pub output-spec : {M : Type 1} → statement M
+output-spec =
+    tie.close
+    (tie.spec enum-told enum-told-2 enum-told-3 enum-told-4 returns returns-2 returns-3 returns-4)

@@ -1,0 +1,77 @@
+-- `filter::Svf::process_buffer` meets its contract, by the loop's laws. Assumes nothing.
+use borrow.Author.Needs.{needs}
+use Prim.Native.Nat.{_-_, _<_, _≤_, min}
+use native.Mathlib.Omega.{arith}
+use lib.ListN.{length}
+use denote.Ref.{now}
+use Rattle.filter.proofs.Buffer.{Filtering, begin-filtering, turn-filtering, end-filtering}
+use Rattle.filter.proofs.Svf.process_buffer.Statement.{statement}
+use Rattle.filter.proofs.Svf.process_buffer.Tie as tie
+
+abbrev Inv-loop : tie.InvT-loop
+Inv-loop in- out₀ mode n filter₀ i₀ out filter i = Filtering mode filter₀ in- out₀ filter out i
+
+abbrev μ-loop : tie.MeasureT-loop
+μ-loop in- out₀ mode n filter₀ i₀ out filter i = n - i
+
+shorter-requires : tie.Need-shorter-requires Inv-loop μ-loop
+shorter-requires c κs = search needs
+
+loop-holds : tie.Need-loop-holds Inv-loop μ-loop
+loop-holds c = begin-filtering _ _ _ _
+
+mul-process : tie.Need-mul-process Inv-loop μ-loop
+mul-process c = search needs
+
+shared-slice-read-process : tie.Need-shared-slice-read-process Inv-loop μ-loop
+shared-slice-read-process c = search needs
+
+process-requires : tie.Need-process-requires Inv-loop μ-loop
+process-requires c κs = search needs
+
+mul-out : tie.Need-mul-out Inv-loop μ-loop
+mul-out c = search needs
+
+slice-write-out : tie.Need-slice-write-out Inv-loop μ-loop
+slice-write-out c = search needs
+
+add-i : tie.Need-add-i Inv-loop μ-loop
+add-i c = search needs
+
+loop-less : tie.Need-loop-less Inv-loop μ-loop
+loop-less c = search needs
+
+loop-again : tie.Need-loop-again Inv-loop μ-loop
+loop-again c =
+    let l = c .before .before .before .before in
+    let a = l .before .before .before .before .args in
+    let h : l .loop .i < min (length (now (a .in-))) (length (now (a .out))) = omega arith in
+    rw (c .before .process .ensures) (turn-filtering _ _ _ _ _ _ _ (l .loop .inv) h)
+
+same-length : tie.Need-same-length Inv-loop μ-loop
+same-length c = c .before .loop .inv .long
+
+returns : tie.Need-returns Inv-loop μ-loop
+returns c =
+    let a = c .before .before .before .before .before .args in
+    let h : min (length (now (a .in-))) (length (now (a .out))) ≤ c .before .loop .i = omega arith in
+    end-filtering _ _ _ _ _ _ _ (c .before .loop .inv) h
+
+pub process-buffer-spec : {M : Type 1} → statement M
+process-buffer-spec =
+    tie.close
+    (tie.spec
+    Inv-loop
+    μ-loop
+    shorter-requires
+    loop-holds
+    mul-process
+    shared-slice-read-process
+    process-requires
+    mul-out
+    slice-write-out
+    add-i
+    loop-less
+    loop-again
+    same-length
+    returns)

@@ -1,0 +1,16 @@
+-- `filter::Svf::set_g_q` meets its contract. Assumes nothing.
+use borrow.Author.Needs.{needs}
+use lib.Ieee.{round, ofBits}
+use Rattle.filter.specs.Svf.{setGQ}
+use Rattle.filter.proofs.Svf.set_g_q.Statement.{statement}
+use Rattle.filter.proofs.Svf.set_g_q.Tie as tie
+
+set-g-r-requires : tie.Need-set-g-r-requires
+set-g-r-requires c κs = search needs
+
+returns : tie.Need-returns
+unfolding setGQ round ofBits
+returns c = rw (c .set-g-r .ensures)
+
+pub set-g-q-spec : {M : Type 1} → statement M
+set-g-q-spec = tie.close (tie.spec set-g-r-requires returns)

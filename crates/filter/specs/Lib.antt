@@ -1,0 +1,2 @@
+pub mod OnePole
+pub mod Svf

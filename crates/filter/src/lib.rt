@@ -240,6 +240,15 @@ impl Svf {
         }
     }
 
+    // `process` of a filter lent by reference: the filter is copied out, and the one that comes back is stored in its place.
+    pub fn process_mut(&mut self, in_: f32, mode: FilterMode) -> f32
+        ensures { λ r. ⌜ (r ≡ svf.process (now (self .entry)) in_ mode .out) × (now (self .exit) ≡ svf.process (now (self .entry)) in_ mode .filter) ⌝ }
+    {
+        let o = Svf::process(*self, in_, mode);
+        *self = o.filter;
+        o.out
+    }
+
     pub fn process_dual(self, in_: f32, mode_1: FilterMode, mode_2: FilterMode) -> SvfDualOutput
         ensures { λ r. ⌜ r ≡ svf.processDual self in_ mode_1 mode_2 ⌝ }
     {

@@ -1,25 +1,76 @@
--- What an accepted answer shows: every question was passed, and a knob that passed lies between its bounds. Assumes nothing.
-use mathlib.Core.Path.{_≡_, refl, sym, subst}
+-- What the numbers show: each answer has its own, and a call is accepted exactly where every question is passed. Assumes nothing.
+use mathlib.Core.Path.{_≡_, refl, sym, subst, ap, _∙_}
 use mathlib.Core.Bool.{Bool, true, false}
-use Prim.Native.Nat.{ℕ}
+use mathlib.Core.List.{[], _∷_}
+use Prim.Native.Nat.{ℕ, _<_}
 use native.Mathlib.Omega.{arith}
 use lib.Dec.{T}
+use lib.ListN.{getD}
 use lib.Ieee.{Float, le}
 use lib.Ieee.Fits.{and-l, and-r}
 use Rattle.ieee754.specs.Single.{decimal}
 use Rattle.ieee754.proofs.Bounds.{Bound, knob-bound}
 use Rattle.refusal.specs.declared.Refusal.{Refusal}
+use Rattle.refusal.specs.declared.Refusal.the-variants.{SampleRate, BlockLength, Frequency, Accent, Knob, Pitch, FirstLine, CueLine, CueStart, CueCount, BufferLength}
 use Rattle.refusal.specs.declared.Answer.{Answer}
 use Rattle.refusal.specs.declared.Answer.the-variants.{Accepted, Refused}
-use Rattle.refusal.specs.Refusal.{ask, within, isUnit}
+use Rattle.refusal.specs.Refusal.{number, answerNumber, ask, within, isUnit}
 
--- a nest of questions is accepted exactly where each is passed
-pub passed : (q : Bool) (r : Refusal) (next : Answer) → ask q r next ≡ Accepted → (q ≡ true) × (next ≡ Accepted)
-passed true r next h = (refl, h)
-passed false r next h = let z : _≡_ {A = ℕ} 0 1 = cc in absurd (omega arith)
+-- an answer is known by its number
+answerOf : ℕ → Answer
+answerOf n =
+    getD
+    (Accepted
+    ∷ Refused SampleRate
+    ∷ Refused BlockLength
+    ∷ Refused Frequency
+    ∷ Refused Accent
+    ∷ Refused Knob
+    ∷ Refused Pitch
+    ∷ Refused FirstLine
+    ∷ Refused CueLine
+    ∷ Refused CueStart
+    ∷ Refused CueCount
+    ∷ Refused BufferLength
+    ∷ [])
+    n Accepted
 
-pub accepted : (q : Bool) (r : Refusal) (next : Answer) → q ≡ true → next ≡ Accepted → ask q r next ≡ Accepted
-accepted q r next h k = rw h k
+back : (a : Answer) → answerOf (answerNumber a) ≡ a
+unfolding answerOf
+back Accepted = refl
+back (Refused SampleRate) = refl
+back (Refused BlockLength) = refl
+back (Refused Frequency) = refl
+back (Refused Accent) = refl
+back (Refused Knob) = refl
+back (Refused Pitch) = refl
+back (Refused FirstLine) = refl
+back (Refused CueLine) = refl
+back (Refused CueStart) = refl
+back (Refused CueCount) = refl
+back (Refused BufferLength) = refl
+
+pub known-by-number : (a b : Answer) → answerNumber a ≡ answerNumber b → a ≡ b
+known-by-number a b e = sym (back a) ∙ ap answerOf e ∙ back b
+
+-- a refusal's number is not 0, so an answer of number 0 is an accepted one
+pub refused : (r : Refusal) → 0 < number r
+refused SampleRate = omega arith
+refused BlockLength = omega arith
+refused Frequency = omega arith
+refused Accent = omega arith
+refused Knob = omega arith
+refused Pitch = omega arith
+refused FirstLine = omega arith
+refused CueLine = omega arith
+refused CueStart = omega arith
+refused CueCount = omega arith
+refused BufferLength = omega arith
+
+-- a nest of questions gives 0 exactly where each is passed
+pub passed : (q : Bool) (n next : ℕ) → 0 < n → ask q n next ≡ 0 → (q ≡ true) × (next ≡ 0)
+passed true n next p h = (refl, h)
+passed false n next p h = absurd (omega arith)
 
 pub unit-bound : (x : Float) → isUnit x ≡ true → Bound 0 1 x
 unfolding isUnit within

@@ -7,7 +7,7 @@ use Rattle.ieee754.specs.Single.{decimal}
 use Rattle.refusal.specs.declared.Refusal.{Refusal}
 use Rattle.refusal.specs.declared.Refusal.the-variants.{SampleRate, BlockLength, Frequency, Accent, Knob, Pitch, FirstLine, CueLine, CueStart, CueCount, BufferLength}
 use Rattle.refusal.specs.declared.Answer.{Answer}
-use Rattle.refusal.specs.declared.Answer.the-variants.{Refused}
+use Rattle.refusal.specs.declared.Answer.the-variants.{Accepted, Refused}
 
 -- the number that a user sees
 abbrev pub number : Refusal → ℕ
@@ -23,10 +23,15 @@ number CueStart = 9
 number CueCount = 10
 number BufferLength = 11
 
--- a question, and the answer of the questions after it: the first that does not pass decides
-abbrev pub ask : Bool → Refusal → Answer → Answer
-ask true refusal next = next
-ask false refusal next = Refused refusal
+-- the number of an answer, 0 for an accepted call
+abbrev pub answerNumber : Answer → ℕ
+answerNumber Accepted = 0
+answerNumber (Refused r) = number r
+
+-- a question with its number, and the number that the questions after it give: the first that is not passed decides, and 0 says that all are
+abbrev pub ask : Bool → ℕ → ℕ → ℕ
+ask true n next = next
+ask false n next = n
 
 -- a number from low to high: no comparison with a NaN holds
 unfoldable pub within : Float → Float → Float → Bool

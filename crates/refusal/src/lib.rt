@@ -42,9 +42,21 @@ impl Refusal {
     }
 }
 
-// One question: the refusal where it does not pass, and the answer of the questions after it where it does.
+impl Answer {
+    // 0 for an accepted call.
+    pub fn number(self) -> u32
+        ensures { λ r. ⌜ r ≡ spec.answerNumber self ⌝ }
+    {
+        match self {
+            Answer::Accepted => 0,
+            Answer::Refused(refusal) => refusal.number(),
+        }
+    }
+}
+
+// One question: the refusal where it is not passed, and the answer of the questions after it where it is.
 pub fn ask(passes: bool, refusal: Refusal, next: Answer) -> Answer
-    ensures { λ r. ⌜ r ≡ spec.ask passes refusal next ⌝ }
+    ensures { λ r. ⌜ spec.answerNumber r ≡ spec.ask passes (spec.number refusal) (spec.answerNumber next) ⌝ }
 {
     if passes {
         next

@@ -2,7 +2,7 @@
 use mathlib.Core.Path.{_≡_, refl, sym, subst, ap, _∙_}
 use mathlib.Core.Bool.{Bool, true, false}
 use mathlib.Core.List.{[], _∷_}
-use Prim.Native.Nat.{ℕ, _<_}
+use Prim.Native.Nat.{ℕ, zero, suc, _<_}
 use native.Mathlib.Omega.{arith}
 use lib.Dec.{T}
 use lib.ListN.{getD}
@@ -14,7 +14,7 @@ use Rattle.refusal.specs.declared.Refusal.{Refusal}
 use Rattle.refusal.specs.declared.Refusal.the-variants.{SampleRate, BlockLength, Frequency, Accent, Knob, Pitch, FirstLine, CueLine, CueStart, CueCount, BufferLength}
 use Rattle.refusal.specs.declared.Answer.{Answer}
 use Rattle.refusal.specs.declared.Answer.the-variants.{Accepted, Refused}
-use Rattle.refusal.specs.Refusal.{number, answerNumber, ask, within, isUnit}
+use Rattle.refusal.specs.Refusal.{number, answerNumber, unlessRefused, ask, within, isUnit}
 
 -- an answer is known by its number
 answerOf : ℕ → Answer
@@ -66,6 +66,18 @@ refused CueLine = omega arith
 refused CueStart = omega arith
 refused CueCount = omega arith
 refused BufferLength = omega arith
+
+-- the two arms of a `match` on an answer a whose number is n
+module _ {A : Type 0} (new old : A) (a : Answer) (n : ℕ) (known : answerNumber a ≡ n) where
+  pub arm-accepted : a ≡ Accepted → unlessRefused n new old ≡ new
+  arm-accepted e = rw (← known, e)
+
+  pub arm-refused : (r : Refusal) → a ≡ Refused r → unlessRefused n new old ≡ old
+  arm-refused r e = go n (rw (e) at known) (refused r)
+    where
+      go : (n : ℕ) → number r ≡ n → 0 < number r → unlessRefused n new old ≡ old
+      go zero k p = absurd (omega arith)
+      go (suc n) k p = refl
 
 -- a nest of questions gives 0 exactly where each is passed
 pub passed : (q : Bool) (n next : ℕ) → 0 < n → ask q n next ≡ 0 → (q ≡ true) × (next ≡ 0)

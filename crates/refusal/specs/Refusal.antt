@@ -1,5 +1,5 @@
 -- Refusals, their numbers, and the questions that several routines ask. Definitions only.
-use Prim.Native.Nat.{ℕ, _^_}
+use Prim.Native.Nat.{ℕ, zero, suc, _^_}
 use mathlib.Core.Bool.{Bool, true, false, _&&_}
 use lib.Dec.{leb}
 use lib.Ieee.{Float, binary32, le, round}
@@ -32,6 +32,11 @@ answerNumber (Refused r) = number r
 abbrev pub ask : Bool → ℕ → ℕ → ℕ
 ask true n next = next
 ask false n next = n
+
+-- what a call of this number leaves: the new value where it is accepted, and the value as it was where it is refused
+abbrev pub unlessRefused : {A : Type 0} → ℕ → A → A → A
+unlessRefused zero new old = new
+unlessRefused (suc n) new old = old
 
 -- a number from low to high: no comparison with a NaN holds
 unfoldable pub within : Float → Float → Float → Bool

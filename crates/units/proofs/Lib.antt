@@ -1,0 +1,9 @@
+pub mod Powers
+pub mod Rounding
+pub mod Table
+pub mod Entries
+pub mod Values
+pub mod Places
+pub mod Product
+pub mod Accuracy
+pub mod InRange

@@ -1,0 +1,155 @@
+-- The two places that a pitch p below 256 reads: its whole part i, and j, which is 256 times its fraction without what is left behind the point.
+-- Both are below 256, so both tables have them. p - i and 256 * (p - i) are exact, so 256 * i + j is 256 * p without its fraction.
+-- A p with a minus sign, or a NaN, has both places 0. Assumes nothing.
+use mathlib.Core.Path.{_≡_, refl, sym, ap, _∙_, subst}
+use mathlib.Core.Bool.{Bool, true, false, _&&_, true≢false}
+use Prim.Native.Nat.{ℕ, zero, suc, _+_, _-_, _*_, _/_, _%_, _^_, _≤_, _<_, min}
+use native.Mathlib.Nat.{le-trans, le-of-eq, le-of-lt, lt-of-le-of-lt, lt-of-lt-of-le, lt-of-not-le, not-le-of-lt, mul-comm, mul-assoc, mul-one, mul-add, mul-lt-mul-of-pos-right}
+use native.Mathlib.Nat.{le-mul-of-pos-right, mod-lt, mod-le, mod-one, mod-eq-sub-div-mul, div-add-mod', div-mul-le-self, div-lt-iff-lt-mul, mul-add-div-right, min-eq-left, zero-div}
+use native.Mathlib.Omega.{arith}
+use lib.Dec.{T, ltb, leb, eqb, ltb→lt, leb→le, eqb→eq, lit<, lit≤}
+use lib.IntN.{ℤ, pos, negsuc}
+use lib.Pow.{pow-add, pow-mono}
+use lib.Ieee.{Float, nan, inf, fin, binary32, up, down, round, sub, mul, ofInt, toUnsigned, le, fits}
+use lib.Ieee.Fits.{up-pos, down-pos, and-l, and-r}
+use lib.Ieee.Exact.{HasValue}
+use lib.Ieee.Back.{round-whole}
+use lib.Ieee.Order.{le-of-values}
+use Rattle.ieee754.specs.Operations.{isSignMinus}
+use Rattle.ieee754.specs.Single.{_⊖_, _⊗_, decimal}
+use Rattle.ieee754.proofs.Whole.{unsigned-of-value, of-minus}
+use Rattle.ieee754.proofs.Range.{minus-zero}
+use Rattle.units.specs.Accuracy.{floor256}
+use Rattle.units.proofs.Values.{less-whole, product, exact, minus-less, minus-times}
+
+-- ---- i and j, as the Rust works them out
+abbrev pub integral : Float → ℕ
+integral p = toUnsigned 64 p
+
+abbrev pub step : Float → ℕ
+step p = toUnsigned 64 ((p ⊖ ofInt binary32 (pos (integral p))) ⊗ decimal 256 0)
+
+pub record Places (p : Float) : Type 0 where
+  pub integral-below : integral p < 256
+  pub step-below : step p < 256
+  pub floored : T (le (decimal 0 0) p) → 256 * integral p + step p ≡ floor256 p
+
+-- ---- a minus sign, and a NaN
+zeros : (p : Float) → integral p ≡ 0 → step p ≡ 0 → (T (le (decimal 0 0) p) → 0 ≡ floor256 p) → Places p
+zeros p i j z =
+    record {
+      integral-below = rw i (lit< tt);
+      step-below = rw j (lit< tt);
+      floored = λ h. rw (j, i) (z h);
+    }
+
+minus-integral : (p : Float) → isSignMinus p ≡ true → integral p ≡ 0
+minus-integral p h = sym (of-minus 64 p h)
+
+minus-step : (p : Float) → isSignMinus p ≡ true → step p ≡ 0
+minus-step p h =
+    rw (minus-integral p h)
+    (sym (of-minus 64 ((p ⊖ ofInt binary32 (pos 0)) ⊗ decimal 256 0) (minus-times (p ⊖ ofInt binary32 (pos 0)) (minus-less p h))))
+
+-- ---- m * 2 ^ e of single precision: m has at most 24 digits, and the denominator of 2 ^ e divides 2 ^ 149
+record Parts (m : ℕ) (e : ℤ) : Type 0 where
+  digits : m < 2 ^ 24
+  j : ℕ
+  j-le : j ≤ 149
+  goes : 2 ^ j * down e ≡ 2 ^ 149
+
+small : (m : ℕ) (e : ℤ) → T (fits binary32 (fin false m e)) → (m < 2 ^ 24) × (down e ≤ 2 ^ 149)
+unfolding fits
+small zero e t =
+    (lit< tt, le-trans (le-mul-of-pos-right (down e) (up-pos e)) (le-trans (le-of-eq (mul-comm (down e) (up e) ∙ eqb→eq (up e * down e) 1 t)) (lit≤ tt)))
+small (suc m) e t =
+    let a = eqb (suc m % 2) 1 in
+    let b = ltb (suc m) (2 ^ 24) in
+    let c = leb (down e) (2 ^ 149) in
+    let three = and-l (a && b && c) (ltb (suc m * up e) (2 ^ 128 * down e)) t in
+    (ltb→lt (suc m) (2 ^ 24) (and-r a b (and-l (a && b) c three)), leb→le (down e) (2 ^ 149) (and-r (a && b) c three))
+
+parts : (m : ℕ) (e : ℤ) → T (fits binary32 (fin false m e)) → Parts m e
+parts m (pos k) t = record { digits = small m (pos k) t .0; j = 149; j-le = lit≤ tt; goes = refl }
+parts m (negsuc k) t =
+    let s = small m (negsuc k) t in
+    let l : suc k ≤ 149 = omega (arith, lt-of-not-le (λ (g : 150 ≤ suc k). not-le-of-lt (lt-of-lt-of-le (lit< {m = 2 ^ 149} {n = 2 ^ 150} tt) (pow-mono g)) (s .1))) in
+    record { digits = s .0; j = 149 - suc k; j-le = omega arith; goes = sym (pow-add 2 (149 - suc k) (suc k)) ∙ ap (λ (z : ℕ). 2 ^ z) (back (suc k) l) }
+  where
+    back : (k : ℕ) → k ≤ 149 → 149 - k + k ≡ 149
+    back k l = omega arith
+
+-- ---- without a minus sign: m * 2 ^ e is `whole` and `rest` / down e
+abbrev whole : ℕ → ℤ → ℕ
+whole m e = m * up e / down e
+
+abbrev rest : ℕ → ℤ → ℕ
+rest m e = m * up e % down e
+
+rest-le : (m : ℕ) (e : ℤ) → rest m e ≤ m
+rest-le m (pos k) = le-trans (le-of-eq (mod-one (m * 2 ^ k))) (omega arith)
+rest-le m (negsuc k) = le-trans (mod-le (m * 1) (2 ^ suc k)) (le-of-eq (mul-one m))
+
+-- a value below 256 without its fraction
+cut : (x : Float) (a c : ℕ) → 0 < c → HasValue x false a c → a / c < 256 → toUnsigned 64 x ≡ a / c
+cut x a c C v h = unsigned-of-value 64 x a c C v ∙ min-eq-left (le-trans (le-of-lt h) (lit≤ tt))
+
+module _ (m : ℕ) (e : ℤ) (h : m * up e < 256 * down e) (t : T (fits binary32 (fin false m e))) where
+  whole-below : whole m e < 256
+  whole-below = div-lt-iff-lt-mul (down-pos e) .1 h
+
+  integral-is : integral (fin false m e) ≡ whole m e
+  integral-is = cut (fin false m e) (m * up e) (down e) (down-pos e) (refl, refl) whole-below
+
+  rest-small : rest m e < 2 ^ 24
+  rest-small = lt-of-le-of-lt (rest-le m e) (parts m e t .digits)
+
+  difference : HasValue (fin false m e ⊖ ofInt binary32 (pos (whole m e))) false (rest m e) (down e)
+  unfolding ofInt
+  difference =
+      let p = parts m e t in
+      rw (
+        less-whole binary32 m e (round binary32 false (whole m e) 1) (whole m e) (round-whole binary32 false (whole m e) (le-trans (le-of-lt whole-below) (lit≤ tt))) (div-mul-le-self (m * up e) (down e)),
+        ← mod-eq-sub-div-mul (m * up e) (down e),
+      )
+      (rw mul-one at (exact (rest m e) 0 (down e) (p .j) (down-pos e) rest-small (omega (arith, p .j-le)) (p .goes)))
+
+  scaled : HasValue ((fin false m e ⊖ ofInt binary32 (pos (whole m e))) ⊗ decimal 256 0) false (rest m e * 256) (down e)
+  scaled =
+      let p = parts m e t in
+      rw (product binary32 (fin false m e ⊖ ofInt binary32 (pos (whole m e))) (decimal 256 0) (rest m e) (down e) 256 1 (down-pos e) (lit< tt) difference (round-whole binary32 false 256 (lit≤ tt)), mul-one)
+      (exact (rest m e) 8 (down e) (p .j) (down-pos e) rest-small (omega (arith, p .j-le)) (p .goes))
+
+  rest-below : rest m e * 256 / down e < 256
+  rest-below = div-lt-iff-lt-mul (down-pos e) .1 (lt-of-lt-of-le (mul-lt-mul-of-pos-right (mod-lt (m * up e) (down-pos e)) (lit< tt)) (le-of-eq (mul-comm (down e) 256)))
+
+  step-is : step (fin false m e) ≡ rest m e * 256 / down e
+  step-is = rw integral-is (cut ((fin false m e ⊖ ofInt binary32 (pos (whole m e))) ⊗ decimal 256 0) (rest m e * 256) (down e) (down-pos e) scaled rest-below)
+
+  together : 256 * whole m e + rest m e * 256 / down e ≡ 256 * (m * up e) / down e
+  together =
+      sym (mul-add-div-right (down-pos e) (256 * whole m e) (rest m e * 256))
+      ∙ ap (λ (z : ℕ). z / down e) (rw (mul-assoc 256 (whole m e) (down e), mul-comm (rest m e) 256, ← mul-add) (ap (λ (z : ℕ). 256 * z) (div-add-mod' (m * up e) (down e))))
+
+-- ---- both places of any pitch below 256
+below : (m : ℕ) (e : ℤ) → le (decimal 256 0) (fin false m e) ≡ false → m * up e < 256 * down e
+below m e h =
+    lt-of-not-le (λ (g : 256 * down e ≤ m * up e).
+    subst T h
+    (le-of-values (decimal 256 0) (fin false m e) 256 1 (m * up e) (down e) (lit< tt) (down-pos e) (round-whole binary32 false 256 (lit≤ tt)) (refl, refl) (le-trans g (le-of-eq (sym (mul-one (m * up e)))))))
+
+pub places : (p : Float) → T (fits binary32 p) → le (decimal 256 0) p ≡ false → Places p
+unfolding le sub mul round toUnsigned isSignMinus
+places nan t h = zeros nan refl refl (λ z. absurd z)
+places (inf true) t h = zeros (inf true) (minus-integral (inf true) refl) (minus-step (inf true) refl) (λ z. absurd z)
+places (inf false) t h = absurd (true≢false h)
+places (fin true m e) t h =
+    zeros (fin true m e) (minus-integral (fin true m e) refl) (minus-step (fin true m e) refl)
+    (λ z. sym (ap (λ (k : ℕ). 256 * k / down e) (minus-zero m e z) ∙ zero-div (down e)))
+places (fin false m e) t h =
+    let b = below m e h in
+    record {
+      integral-below = rw (integral-is m e b t) (whole-below m e b t);
+      step-below = rw (step-is m e b t) (rest-below m e b t);
+      floored = λ _. rw (step-is m e b t, integral-is m e b t) (together m e b t);
+    }

@@ -1,0 +1,64 @@
+-- A fraction in the normal range is rounded to within one part in 2 ^ p of itself, where the format keeps p digits. Assumes nothing.
+use mathlib.Core.Path.{_≡_, sym, ap, _∙_, subst}
+use mathlib.Core.Bool.{not}
+use Prim.Native.Nat.{ℕ, suc, _+_, _-_, _*_, _/_, _%_, _^_, _≤_, _<_, compare, Ordering, Ordering·lt, Ordering·eq, Ordering·gt}
+use native.Mathlib.Nat.{le-trans, le-of-eq, mul-comm, mul-assoc, mul-left-comm, mul-right-comm, mul-le-mul-left, mul-le-mul-right, mul-pos, mul-add, add-mul, suc-mul, pow-suc}
+use native.Mathlib.Nat.{mod-lt, div-add-mod', le-div-iff-mul-le}
+use native.Mathlib.Omega.{arith}
+use lib.Dec.{T, isLe, isEq, leb→le, nleb→lt, eqb→eq}
+use lib.Pow.{pow-add, pow-pos}
+use lib.Ieee.{nearest, size}
+use lib.Ieee.Digits.{size-reaches}
+use lib.Ieee.Nearest.{closest}
+use lib.Ieee.Order.{drop, kept}
+
+-- ---- the nearest whole number is at most a half away: n * u lies within u / 2 of a
+abbrev Half : (n u a : ℕ) → Type 0
+Half n u a = (n * u * 2 ≤ a * 2 + u) × (a * 2 ≤ n * u * 2 + u)
+
+-- w whole units and a remainder r, which o compares with a half
+half : (w r u : ℕ) (o : Ordering) → r < u → (T (isLe o) → r * 2 ≤ u) → (T (not (isLe o)) → u < r * 2) → (T (isEq o) → r * 2 ≡ u) → Half (nearest w o) u (w * u + r)
+half w r u Ordering·lt below less more tie = let h : r * 2 ≤ u = less tt in (omega arith, omega arith)
+half w r u Ordering·gt below less more tie = let h : u < r * 2 = more tt in rw (suc-mul w u) (omega arith, omega arith)
+half w r u Ordering·eq below less more tie = even (w % 2) (mod-lt w (pow-pos 1)) (tie tt)
+  where
+    even : (p : ℕ) → p < 2 → r * 2 ≡ u → Half (w + p) u (w * u + r)
+    even p h e = let t : p * u ≤ 1 * u = mul-le-mul-right u (omega arith) in rw (add-mul w p u) (omega arith, omega arith)
+
+closest-half : (a u : ℕ) → 0 < u → Half (closest a u) u a
+closest-half a u U =
+    subst (λ (x : ℕ). Half (closest a u) u x) (div-add-mod' a u)
+    (half (a / u) (a % u) u (compare (a % u * 2) u) (mod-lt a U) (leb→le (a % u * 2) u) (nleb→lt (a % u * 2) u) (eqb→eq (a % u * 2) u))
+
+-- ---- a number of p digits in units of u is off by u / 2, which is one part in 2 ^ p
+digits : (z p : ℕ) → 0 < p → p ≤ z → p - 1 + (z - p) < z
+digits z p P h = omega arith
+
+-- x is at most u / 2 above y, and u goes s times into n
+part : (x y u n s : ℕ) → x * 2 ≤ y * 2 + u → s * u ≤ n → s * 2 * x ≤ s * 2 * y + n
+part x y u n s h k =
+    let a : s * (x * 2) ≤ s * (y * 2 + u) = mul-le-mul-left s h in
+    let b : s * (y * 2 + u) ≡ s * 2 * y + s * u = simp (mul-add, mul-assoc, mul-comm, mul-left-comm) in
+    let c : s * (x * 2) ≡ s * 2 * x = simp (mul-assoc, mul-comm, mul-left-comm) in
+    omega arith
+
+module _ (p n den : ℕ) (P : 0 < p) (D : 0 < den) (normal : p ≤ size (n / den)) where
+  unit : kept p n den * (den * 2 ^ drop p n den) ≡ kept p n den * 2 ^ drop p n den * den
+  unit = simp (mul-assoc, mul-comm, mul-left-comm)
+
+  below : 2 ^ (p - 1) * (den * 2 ^ drop p n den) ≤ n
+  below =
+      le-trans (le-of-eq (simp (pow-add, mul-assoc, mul-comm, mul-left-comm)))
+      (le-div-iff-mul-le D .0 (size-reaches (n / den) (p - 1 + drop p n den) (digits (size (n / den)) p P normal)))
+
+  twice : 2 ^ p ≡ 2 ^ (p - 1) * 2
+  twice = ap (λ (z : ℕ). 2 ^ z) (up p P) ∙ pow-suc 2 (p - 1)
+    where
+      up : (p : ℕ) → 0 < p → p ≡ suc (p - 1)
+      up p h = omega arith
+
+  pub kept-near : (2 ^ p * (kept p n den * 2 ^ drop p n den * den) ≤ 2 ^ p * n + n) × (2 ^ p * n ≤ 2 ^ p * (kept p n den * 2 ^ drop p n den * den) + n)
+  kept-near =
+      let u = den * 2 ^ drop p n den in
+      let c = closest-half n u (mul-pos D (pow-pos (drop p n den))) in
+      rw (twice, ← unit) (part (kept p n den * u) n u n (2 ^ (p - 1)) (c .0) below, part n (kept p n den * u) u n (2 ^ (p - 1)) (c .1) below)

@@ -1,0 +1,95 @@
+-- Differences and products of values that are known as fractions, zero included, and the sign of those that have a minus sign. Assumes nothing.
+use mathlib.Core.Path.{_≡_, refl, sym, ap, _∙_, subst}
+use mathlib.Core.Bool.{Bool, true, false, cond, true≢false}
+use Prim.Native.Nat.{ℕ, zero, suc, _+_, _-_, _*_, _^_, _≤_, _<_}
+use native.Mathlib.Nat.{lt-of-lt-of-le, not-le-of-lt, mul-comm, mul-assoc, mul-left-comm, mul-right-comm, mul-mul-mul-comm, mul-one, mul-sub, mul-pos, mul-le-mul-right}
+use native.Mathlib.Omega.{arith}
+use lib.Dec.{T, ltb, ltb→lt}
+use lib.IntN.{ℤ, pos}
+use lib.Pow.{pow-add, pow-mono, shl-lt}
+use lib.Ieee.{Float, nan, inf, fin, Format, binary32, prec, emax, low, up, down, odd, units, round, sum, sub, mul, ofInt}
+use lib.Ieee.Fits.{down-pos, round-is}
+use lib.Ieee.Exact.{HasValue, round-exact}
+use lib.Ieee.Order.{kept, drop}
+use lib.Ieee.Scale.{round-same}
+use Rattle.ieee754.specs.Operations.{isSignMinus}
+use Rattle.ieee754.specs.Single.{decimal}
+
+-- ---- m * 2 ^ e - i, for a whole i that is no larger
+sum-is : (f : Format) (a b c : ℕ) → b ≤ a → sum f false a true b c ≡ round f false (a - b) c
+unfolding sum
+sum-is f a b c h = go (ltb a b) (ltb→lt a b)
+  where
+    go : (t : Bool) → (T t → a < b) → cond t (round f true (b - a) c) (round f false (a - b) c) ≡ round f false (a - b) c
+    go true k = absurd (not-le-of-lt (k tt) h)
+    go false k = refl
+
+spread : (x y c d : ℕ) → (x * d - y * d) * c ≡ (x - y) * (c * d)
+spread x y c d = rw (mul-comm x d, mul-comm y d, ← mul-sub d x y) (simp (mul-assoc, mul-comm, mul-left-comm))
+
+pub less-whole : (f : Format) (m : ℕ) (e : ℤ) (y : Float) (i : ℕ) → HasValue y false i 1 → i * down e ≤ m * up e
+    → sub f (fin false m e) y ≡ round f false (m * up e - i * down e) (down e)
+unfolding sub
+less-whole f m e nan i v h = absurd v
+less-whole f m e (inf s) i v h = absurd v
+less-whole f m e (fin true n d) i v h = absurd (true≢false (v .0))
+less-whole f m e (fin false n d) i v h =
+    let y : n * up d * down e ≡ i * down e * down d = ap (λ (z : ℕ). z * down e) (sym (mul-one (n * up d)) ∙ v .1) ∙ mul-right-comm i (down d) (down e) in
+    ap (λ (z : ℕ). sum f false (m * up e * down d) true z (down e * down d)) y
+    ∙ sum-is f (m * up e * down d) (i * down e * down d) (down e * down d) (mul-le-mul-right (down d) h)
+    ∙ round-same f false (m * up e * down d - i * down e * down d) (down e * down d) (m * up e - i * down e) (down e) (mul-pos (down-pos e) (down-pos d)) (down-pos e)
+    (spread (m * up e) (i * down e) (down e) (down d))
+
+-- ---- a / c times b / d
+pub product : (f : Format) (x y : Float) (a c b d : ℕ) → 0 < c → 0 < d → HasValue x false a c → HasValue y false b d → mul f x y ≡ round f false (a * b) (c * d)
+unfolding mul
+product f nan y a c b d C D h k = absurd h
+product f (inf s) y a c b d C D h k = absurd h
+product f (fin true m e) y a c b d C D h k = absurd (true≢false (h .0))
+product f (fin false m e) nan a c b d C D h k = absurd k
+product f (fin false m e) (inf s) a c b d C D h k = absurd k
+product f (fin false m e) (fin true n g) a c b d C D h k = absurd (true≢false (k .0))
+product f (fin false m e) (fin false n g) a c b d C D h k =
+    round-same f false (m * up e * (n * up g)) (down e * down g) (a * b) (c * d) (mul-pos (down-pos e) (down-pos g)) (mul-pos C D)
+    (mul-mul-mul-comm (m * up e) (n * up g) c d ∙ rw (h .1, k .1) (mul-mul-mul-comm a (down e) b (down g)))
+
+-- ---- r * 2 ^ k / c, where r has at most 24 digits and c divides 2 ^ 149, is a value of single precision
+pub exact : (r k c j : ℕ) → 0 < c → r < 2 ^ 24 → j + k ≤ 200 → 2 ^ j * c ≡ 2 ^ 149 → HasValue (round binary32 false (r * 2 ^ k) c) false (r * 2 ^ k) c
+exact r k c j C R J goes =
+    round-exact binary32 false (r * 2 ^ k) c r (j + k) C R (lt-of-lt-of-le (shl-lt 24 (j + k) R) (pow-mono {i = 24 + (j + k)} {j = 277} (omega arith)))
+    (ap (λ (z : ℕ). r * 2 ^ k * z) (sym goes) ∙ simp (pow-add, mul-assoc, mul-comm, mul-left-comm))
+
+-- ---- a minus sign stays
+minus-odd : (d q k l : ℕ) → isSignMinus (odd d true q k l) ≡ true
+unfolding odd isSignMinus
+minus-odd d zero k l = refl
+minus-odd d (suc q) k l = refl
+
+minus-units : (f : Format) (q k : ℕ) → isSignMinus (units f true q k) ≡ true
+unfolding units isSignMinus
+minus-units f q k = go (ltb (q * 2 ^ k) (2 ^ (low f + suc (emax f))))
+  where
+    go : (b : Bool) → isSignMinus (cond b (odd (suc (prec f)) true q k (low f)) (inf true)) ≡ true
+    go true = minus-odd (suc (prec f)) q k (low f)
+    go false = refl
+
+minus-round : (f : Format) (a c : ℕ) → isSignMinus (round f true a c) ≡ true
+minus-round f a c = ap isSignMinus (round-is f true a c) ∙ minus-units f (kept (prec f) (a * 2 ^ low f) c) (drop (prec f) (a * 2 ^ low f) c)
+
+-- x - 0
+pub minus-less : (x : Float) → isSignMinus x ≡ true → isSignMinus (sub binary32 x (ofInt binary32 (pos 0))) ≡ true
+unfolding sub ofInt isSignMinus
+minus-less nan h = h
+minus-less (inf true) h = refl
+minus-less (inf false) h = h
+minus-less (fin true m e) h = minus-round binary32 (m * up e * 1 + 0 * 1 * down e) (down e * 1)
+minus-less (fin false m e) h = absurd (true≢false (sym h))
+
+-- 256 * x
+pub minus-times : (x : Float) → isSignMinus x ≡ true → isSignMinus (mul binary32 x (decimal 256 0)) ≡ true
+unfolding mul round isSignMinus
+minus-times nan h = h
+minus-times (inf true) h = refl
+minus-times (inf false) h = h
+minus-times (fin true m e) h = minus-round binary32 (m * up e * 256) (down e * 1)
+minus-times (fin false m e) h = absurd (true≢false (sym h))

@@ -1,0 +1,40 @@
+// Pitches in semitones as ratios of frequencies.
+ghost use mathlib.Core.Path.{_≡_};
+ghost use Rattle.units.specs.Units as spec;
+ghost use Rattle.units.specs.Accuracy.{Promised};
+use refusal::Refusal;
+
+mod tables; // tables.rt: LUT_PITCH_RATIO_HIGH and LUT_PITCH_RATIO_LOW
+
+// The ratio of a pitch, or the refusal of one that lies beyond the tables.
+pub enum Ratio {
+    Of(f32),
+    Refused(Refusal),
+}
+
+impl Ratio {
+    // The ratio; `other` in place of one that was refused.
+    pub fn unwrap_or(self, other: f32) -> f32
+        ensures { λ r. ⌜ r ≡ spec.unwrapOr self other ⌝ }
+    {
+        match self {
+            Ratio::Of(ratio) => ratio,
+            Ratio::Refused(_) => other,
+        }
+    }
+}
+
+// 2^(semitones / 12). Both tables end at a pitch of 256, that is 128 semitones; below -128 semitones
+// the ratio stays that of -128, and so it does for a pitch that is not a number.
+pub fn semitones_to_ratio(semitones: f32) -> Ratio
+    ensures { λ r. ⌜ Promised semitones r ⌝ }
+{
+    let pitch = semitones + 128.0;
+    if pitch >= 256.0 {
+        return Ratio::Refused(Refusal::Pitch);
+    }
+    let pitch_integral = ieee754::truncate_usize(pitch);
+    let pitch_fractional = pitch - (pitch_integral as f32);
+    let step = ieee754::truncate_usize(pitch_fractional * 256.0);
+    Ratio::Of(tables::LUT_PITCH_RATIO_HIGH[pitch_integral] * tables::LUT_PITCH_RATIO_LOW[step])
+}

@@ -1,20 +1,15 @@
 -- What the numbers show: each answer has its own, and a call is accepted exactly where every question is passed. Assumes nothing.
-use mathlib.Core.Path.{_≡_, refl, sym, subst, ap, _∙_}
+use mathlib.Core.Path.{_≡_, refl, sym, ap, _∙_}
 use mathlib.Core.Bool.{Bool, true, false}
 use mathlib.Core.List.{[], _∷_}
 use Prim.Native.Nat.{ℕ, zero, suc, _<_}
 use native.Mathlib.Omega.{arith}
-use lib.Dec.{T}
 use lib.ListN.{getD}
-use lib.Ieee.{Float, le}
-use lib.Ieee.Fits.{and-l, and-r}
-use Rattle.ieee754.specs.Single.{decimal}
-use Rattle.ieee754.proofs.Bounds.{Bound, knob-bound}
 use Rattle.refusal.specs.declared.Refusal.{Refusal}
 use Rattle.refusal.specs.declared.Refusal.the-variants.{SampleRate, BlockLength, Frequency, Accent, Knob, Pitch, FirstLine, CueLine, CueStart, CueCount, BufferLength}
 use Rattle.refusal.specs.declared.Answer.{Answer}
 use Rattle.refusal.specs.declared.Answer.the-variants.{Accepted, Refused}
-use Rattle.refusal.specs.Refusal.{number, answerNumber, unlessRefused, ask, within, isUnit}
+use Rattle.refusal.specs.Refusal.{number, answerNumber, unlessRefused, ask}
 
 -- an answer is known by its number
 answerOf : ℕ → Answer
@@ -67,10 +62,14 @@ refused CueStart = omega arith
 refused CueCount = omega arith
 refused BufferLength = omega arith
 
+-- the number of an accepted answer
+pub zero-of : (a : Answer) (n : ℕ) → answerNumber a ≡ n → a ≡ Accepted → n ≡ 0
+zero-of a n known e = sym known ∙ ap answerNumber e
+
 -- the two arms of a `match` on an answer a whose number is n
 module _ {A : Type 0} (new old : A) (a : Answer) (n : ℕ) (known : answerNumber a ≡ n) where
   pub arm-accepted : a ≡ Accepted → unlessRefused n new old ≡ new
-  arm-accepted e = rw (← known, e)
+  arm-accepted e = rw (zero-of a n known e)
 
   pub arm-refused : (r : Refusal) → a ≡ Refused r → unlessRefused n new old ≡ old
   arm-refused r e = go n (rw (e) at known) (refused r)
@@ -83,9 +82,3 @@ module _ {A : Type 0} (new old : A) (a : Answer) (n : ℕ) (known : answerNumber
 pub passed : (q : Bool) (n next : ℕ) → 0 < n → ask q n next ≡ 0 → (q ≡ true) × (next ≡ 0)
 passed true n next p h = (refl, h)
 passed false n next p h = absurd (omega arith)
-
-pub unit-bound : (x : Float) → isUnit x ≡ true → Bound 0 1 x
-unfolding isUnit within
-unit-bound x h =
-    let t = subst T (sym h) tt in
-    knob-bound x (and-l (le (decimal 0 0) x) (le x (decimal 1 0)) t) (and-r (le (decimal 0 0) x) (le x (decimal 1 0)) t)

@@ -1,5 +1,6 @@
 -- Refusals, their numbers, and the questions that several routines ask. Definitions only.
 use Prim.Native.Nat.{ℕ, zero, suc, _^_}
+use mathlib.Core.Path.{_≡_}
 use mathlib.Core.Bool.{Bool, true, false, _&&_}
 use lib.Dec.{leb}
 use lib.Ieee.{Float, binary32, le, round}
@@ -57,3 +58,7 @@ isFrequency f0 = within (round binary32 false 1 (2 ^ 20)) (decimal 5 1) f0
 -- 4 and 5: a number from 0.0 to 1.0; -0.0 equals 0.0 and is one
 unfoldable pub isUnit : Float → Bool
 isUnit x = within (decimal 0 0) (decimal 1 0) x
+
+-- a knob that has passed its question
+abbrev pub KnobIn : Float → Type 0
+KnobIn x = isUnit x ≡ true

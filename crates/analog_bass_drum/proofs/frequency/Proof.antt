@@ -1,0 +1,19 @@
+-- `analog_bass_drum::frequency` meets its contract. Assumes nothing.
+use borrow.Author.Needs.{needs}
+use lib.Ieee.{round, ofBits}
+use Rattle.analog_bass_drum.specs.AnalogBassDrum.{frequency}
+use Rattle.analog_bass_drum.proofs.frequency.Statement.{statement}
+use Rattle.analog_bass_drum.proofs.frequency.Tie as tie
+
+diode-requires : tie.Need-diode-requires
+diode-requires c κs = search needs
+
+clamp-requires : tie.Need-clamp-requires
+clamp-requires c κs = search needs
+
+returns : tie.Need-returns
+unfolding frequency round ofBits
+returns c = rw (c .clamp .ensures, c .before .before .before .before .diode .ensures)
+
+pub frequency-spec : {M : Type 1} → statement M
+frequency-spec = tie.close (tie.spec diode-requires clamp-requires returns)

@@ -1,0 +1,317 @@
+// drums/analog_bass_drum.rs: 808 bass drum model, without its sustain mode.
+ghost use mathlib.Core.Path.{_≡_};
+ghost use lib.ListN.{length};
+ghost use Rattle.refusal.specs.Refusal.{answerNumber, KnobIn};
+ghost use Rattle.block.specs.Block.{samples, after};
+ghost use Rattle.analog_bass_drum.specs.AnalogBassDrum as spec;
+use filter::FilterMode;
+use filter::FrequencyApproximation;
+use filter::Svf;
+use refusal::Answer;
+use refusal::Refusal;
+use trigger_pulse::TriggerPulse;
+
+pub struct AnalogBassDrum {
+    pub pulse_remaining_samples: u32,
+    pub fm_pulse_remaining_samples: u32,
+    pub pulse: f32,
+    pub pulse_height: f32,
+    pub pulse_lp: f32,
+    pub fm_pulse_lp: f32,
+    pub retrig_pulse: f32,
+    pub lp_out: f32,
+    pub tone_lp: f32,
+    pub resonator: Svf,
+    pub trigger_pulse_duration: u32,
+    pub fm_pulse_duration: u32,
+    pub pulse_decay_time: f32,
+    pub pulse_filter_time: f32,
+    pub retrig_pulse_duration: f32,
+}
+
+// What a call answers, and the voice after it.
+pub struct Answered {
+    pub answer: Answer,
+    pub voice: AnalogBassDrum,
+}
+
+// What stays the same over a settings.
+struct Settings {
+    f0: f32,
+    scale: f32,
+    q: f32,
+    tone_f: f32,
+    exciter_leak: f32,
+    attack_fm_amount: f32,
+    self_fm_amount: f32,
+}
+
+// The pulse on the resonator's frequency, and the pulse at its end.
+struct FmPulse {
+    remaining_samples: u32,
+    fm_pulse: f32,
+    retrig_pulse: f32,
+}
+
+fn diode(x: f32) -> f32
+    ensures { λ r. ⌜ r ≡ spec.diode x ⌝ }
+{
+    if x >= 0.0 {
+        return x;
+    }
+    let y = x * 2.0;
+    0.7 * y / (1.0 + ieee754::abs(y))
+}
+
+impl AnalogBassDrum {
+    pub fn init(self, sample_rate_hz: f32) -> Answered
+        ensures answer { λ r. ⌜ answerNumber (r .answer) ≡ spec.initRefusal «sample_rate_hz» ⌝ }
+        ensures voice { λ r. ⌜ r .voice ≡ spec.init self «sample_rate_hz» ⌝ }
+    {
+        let answer = refusal::ask(
+            refusal::is_sample_rate(sample_rate_hz),
+            Refusal::SampleRate,
+            Answer::Accepted,
+        );
+        match answer {
+            Answer::Refused(_) => Answered {
+                answer,
+                voice: self,
+            },
+            Answer::Accepted => {
+                let voice = self.initialized(sample_rate_hz);
+                Answered { answer, voice }
+            }
+        }
+    }
+
+    fn initialized(self, sample_rate_hz: f32) -> Self
+        ensures { λ r. ⌜ r ≡ spec.initialized self «sample_rate_hz» ⌝ }
+    {
+        let resonator = self.resonator.init();
+        AnalogBassDrum {
+            pulse_remaining_samples: 0,
+            fm_pulse_remaining_samples: 0,
+            pulse: 0.0,
+            pulse_height: 0.0,
+            pulse_lp: 0.0,
+            fm_pulse_lp: 0.0,
+            retrig_pulse: 0.0,
+            lp_out: 0.0,
+            tone_lp: 0.0,
+            resonator,
+            trigger_pulse_duration: ieee754::truncate_u32(1.0e-3 * sample_rate_hz),
+            fm_pulse_duration: ieee754::truncate_u32(6.0e-3 * sample_rate_hz),
+            pulse_decay_time: 0.2e-3 * sample_rate_hz,
+            pulse_filter_time: 0.1e-3 * sample_rate_hz,
+            retrig_pulse_duration: 0.05 * sample_rate_hz,
+        }
+    }
+
+    pub fn render(
+        self,
+        trigger: bool,
+        accent: f32,
+        f0: f32,
+        tone: f32,
+        decay: f32,
+        attack_fm_amount: f32,
+        self_fm_amount: f32,
+        out: &mut [f32],
+    ) -> Answered
+        ensures answer { λ r. ⌜ answerNumber (r .answer) ≡ spec.renderRefusal (length (now (out .entry))) accent f0 tone decay «attack_fm_amount» «self_fm_amount» ⌝ }
+        ensures voice { λ r. ⌜ r .voice ≡ spec.render self trigger accent f0 tone decay «attack_fm_amount» «self_fm_amount» (length (now (out .entry))) ⌝ }
+        ensures block { λ _. ⌜ now (out .exit) ≡ spec.renderOut self trigger accent f0 tone decay «attack_fm_amount» «self_fm_amount» (now (out .entry)) ⌝ }
+    {
+        let answer = asked(
+            out.len(),
+            accent,
+            f0,
+            tone,
+            decay,
+            attack_fm_amount,
+            self_fm_amount,
+        );
+        match answer {
+            Answer::Refused(_) => Answered {
+                answer,
+                voice: self,
+            },
+            Answer::Accepted => {
+                let settings = Settings::new(f0, tone, decay, attack_fm_amount, self_fm_amount);
+                let voice = self.triggered(trigger, accent).run(settings, out);
+                Answered { answer, voice }
+            }
+        }
+    }
+
+    fn triggered(mut self, trigger: bool, accent: f32) -> Self
+        ensures { λ r. ⌜ r ≡ spec.triggered self trigger accent ⌝ }
+    {
+        if !trigger {
+            return self;
+        }
+        self.pulse_remaining_samples = self.trigger_pulse_duration;
+        self.fm_pulse_remaining_samples = self.fm_pulse_duration;
+        self.pulse_height = 3.0 + 7.0 * accent;
+        self.lp_out = 0.0;
+        self
+    }
+
+    // The loop over the settings.
+    fn run(self, settings: Settings, out: &mut [f32]) -> Self
+        ensures voice { λ r. ⌜ r ≡ after (spec.turn settings) (length (now (out .entry))) self ⌝ }
+        ensures block { λ _. ⌜ now (out .exit) ≡ samples (spec.turn settings) (length (now (out .entry))) self ⌝ }
+    {
+        let mut voice = self;
+        let mut i = 0;
+        while i < out.len() {
+            voice = voice.step(settings);
+            out[i] = voice.tone_lp;
+            i += 1;
+        }
+        voice
+    }
+
+    // One turn of the loop. The sample is tone_lp.
+    fn step(self, settings: Settings) -> Self
+        ensures { λ r. ⌜ r ≡ spec.step settings self ⌝ }
+    {
+        // Q39 / Q40
+        let trigger_pulse = TriggerPulse {
+            remaining_samples: self.pulse_remaining_samples,
+            pulse: self.pulse,
+        };
+        let p = trigger_pulse.next(self.pulse_height, self.pulse_decay_time);
+
+        // C40 / R163 / R162 / D83
+        let pulse_lp = utils::one_pole(self.pulse_lp, p.pulse, 1.0 / self.pulse_filter_time);
+        let pulse = diode((p.pulse - pulse_lp) + p.pulse * 0.044);
+
+        let m = self.fm_pulse();
+        let fm_pulse_lp = utils::one_pole(
+            self.fm_pulse_lp,
+            m.fm_pulse,
+            1.0 / self.pulse_filter_time,
+        );
+        let f = frequency(settings, fm_pulse_lp, self.lp_out);
+        let tuned = self.resonator
+            .set_f_q(f, 1.0 + settings.q * f, FrequencyApproximation::Dirty);
+        let d = tuned.process_dual(
+            (pulse - m.retrig_pulse * 0.2) * settings.scale,
+            FilterMode::BandPass,
+            FilterMode::LowPass,
+        );
+        let tone_lp = utils::one_pole(
+            self.tone_lp,
+            pulse * settings.exciter_leak + d.out_1,
+            settings.tone_f,
+        );
+        let resonator = d.filter;
+        AnalogBassDrum {
+            pulse_remaining_samples: p.remaining_samples,
+            fm_pulse_remaining_samples: m.remaining_samples,
+            pulse: p.pulse,
+            pulse_height: self.pulse_height,
+            pulse_lp,
+            fm_pulse_lp,
+            retrig_pulse: m.retrig_pulse,
+            lp_out: d.out_2,
+            tone_lp,
+            resonator,
+            trigger_pulse_duration: self.trigger_pulse_duration,
+            fm_pulse_duration: self.fm_pulse_duration,
+            pulse_decay_time: self.pulse_decay_time,
+            pulse_filter_time: self.pulse_filter_time,
+            retrig_pulse_duration: self.retrig_pulse_duration,
+        }
+    }
+
+    // Q41 / Q42, C39 / C52, C39 / R161
+    fn fm_pulse(self) -> FmPulse
+        ensures { λ r. ⌜ r ≡ spec.fmPulse (self .«fm_pulse_remaining_samples») (self .«retrig_pulse») (self .«retrig_pulse_duration») ⌝ }
+    {
+        if self.fm_pulse_remaining_samples == 0 {
+            return FmPulse {
+                remaining_samples: 0,
+                fm_pulse: 0.0,
+                retrig_pulse: self.retrig_pulse * (1.0 - 1.0 / self.retrig_pulse_duration),
+            };
+        }
+        let remaining_samples = self.fm_pulse_remaining_samples - 1;
+        if remaining_samples == 0 {
+            return FmPulse {
+                remaining_samples,
+                fm_pulse: 1.0,
+                retrig_pulse: -0.8,
+            };
+        }
+        FmPulse {
+            remaining_samples,
+            fm_pulse: 1.0,
+            retrig_pulse: 0.0,
+        }
+    }
+}
+
+// The questions of `render`, in the order of their numbers.
+fn asked(
+    samples: usize,
+    accent: f32,
+    f0: f32,
+    tone: f32,
+    decay: f32,
+    attack_fm_amount: f32,
+    self_fm_amount: f32,
+) -> Answer
+    ensures { λ r. ⌜ answerNumber r ≡ spec.renderRefusal samples accent f0 tone decay «attack_fm_amount» «self_fm_amount» ⌝ }
+{
+    let last = refusal::ask(
+        refusal::is_unit(self_fm_amount),
+        Refusal::Knob,
+        Answer::Accepted,
+    );
+    let attack = refusal::ask(refusal::is_unit(attack_fm_amount), Refusal::Knob, last);
+    let decays = refusal::ask(refusal::is_unit(decay), Refusal::Knob, attack);
+    let knobs = refusal::ask(refusal::is_unit(tone), Refusal::Knob, decays);
+    let fourth = refusal::ask(refusal::is_unit(accent), Refusal::Accent, knobs);
+    let third = refusal::ask(refusal::is_frequency(f0), Refusal::Frequency, fourth);
+    refusal::ask(
+        refusal::is_block_length(samples),
+        Refusal::BlockLength,
+        third,
+    )
+}
+
+impl Settings {
+    // The lines before the loop. Both pitches lie in the tables, so neither ratio is replaced.
+    fn new(f0: f32, tone: f32, decay: f32, attack_fm_amount: f32, self_fm_amount: f32) -> Self
+        requires { ⌜ KnobIn tone × KnobIn decay ⌝ }
+        ensures { λ r. ⌜ r ≡ spec.settings f0 tone decay «attack_fm_amount» «self_fm_amount» ⌝ }
+    {
+        let decay_ratio = units::semitones_to_ratio(decay * 80.0).unwrap_or(0.0);
+        let tone_ratio = units::semitones_to_ratio(tone * 108.0).unwrap_or(0.0);
+        Settings {
+            f0,
+            scale: 0.001 / f0,
+            q: 1500.0 * decay_ratio,
+            tone_f: ieee754::minimum_number(4.0 * f0 * tone_ratio, 1.0),
+            exciter_leak: 0.08 * (tone + 0.25),
+            attack_fm_amount,
+            self_fm_amount,
+        }
+    }
+}
+
+// The resonator's frequency.
+fn frequency(settings: Settings, fm_pulse_lp: f32, lp_out: f32) -> f32
+    ensures { λ r. ⌜ r ≡ spec.frequency settings «fm_pulse_lp» «lp_out» ⌝ }
+{
+    // Q43 and R170 leakage
+    let punch = 0.7 + diode(10.0 * lp_out - 1.0);
+
+    // Q43 / R165
+    let attack_fm = fm_pulse_lp * 1.7 * settings.attack_fm_amount;
+    let self_fm = punch * 0.08 * settings.self_fm_amount;
+    ieee754::clamp(settings.f0 * (1.0 + attack_fm + self_fm), 0.0, 0.4)
+}

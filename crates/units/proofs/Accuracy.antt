@@ -1,9 +1,10 @@
 -- The contract of `semitones_to_ratio`, shown of any answer that equals the definition. Assumes nothing.
-use mathlib.Core.Path.{_≡_, refl, sym, ap, _∙_, subst}
+use mathlib.Core.Path.{_≡_, refl, sym, ap, _∙_}
 use mathlib.Core.Bool.{Bool, true, false, cond}
-use Prim.Native.Nat.{ℕ, _+_, _*_, _^_, _≤_, _<_}
-use native.Mathlib.Nat.{lt-irrefl, not-le-of-lt, mul-pos}
-use lib.Dec.{T, ltb, eqb, ltb→lt, eqb→eq, lit<}
+use Prim.Native.Nat.{ℕ, _+_, _*_, _<_}
+use native.Mathlib.Nat.{not-le-of-lt}
+use native.Mathlib.Omega.{arith}
+use lib.Dec.{T, eqb, ltb→lt, eqb→eq}
 use lib.ListN.{getD}
 use lib.IntN.{pos, _+ℤ_, _-ℤ_, +ℤ-assoc, -ℤ-+ℤ-cancel, pos-+ℤ-pos}
 use lib.Ieee.{Float, nan, inf, fin, binary32, up, down, round, ofInt, toUnsigned, le, lt}
@@ -13,11 +14,11 @@ use Rattle.ieee754.proofs.Range.{at-most, refuted}
 use Rattle.refusal.specs.declared.Refusal.the-variants.{Pitch}
 use Rattle.units.specs.Tables.{«LUT_PITCH_RATIO_HIGH», «LUT_PITCH_RATIO_LOW»}
 use Rattle.units.specs.Units.{pitchOf, ratio, semitonesToRatio, number}
-use Rattle.units.specs.Accuracy.{floor256, g, Accurate, InTables, Promised}
+use Rattle.units.specs.Accuracy.{floor256, Accurate, InTables, Promised}
 use Rattle.units.specs.declared.Ratio.{Ratio}
 use Rattle.units.specs.declared.Ratio.the-variants.{Of, Refused}
 use Rattle.units.proofs.Places.{integral, step, Places, places}
-use Rattle.units.proofs.Product.{Close, close-at}
+use Rattle.units.proofs.Product.{close-at}
 
 -- ---- what is below 256 is not 256 or more
 not-beyond : (p : Float) → T (lt p (decimal 256 0)) → le (decimal 256 0) p ≡ false
@@ -27,7 +28,8 @@ not-beyond (inf true) t = refl
 not-beyond (inf false) t = absurd t
 not-beyond (fin true m e) t =
     refuted (le (decimal 256 0) (fin true m e)) (λ k.
-    lt-irrefl 0 (subst (λ (z : ℕ). 0 < z) (eqb→eq (256 * down e) 0 (and-r (eqb (256 * down e) (m * up e * 1)) (eqb (256 * down e) 0) k)) (mul-pos (lit< tt) (down-pos e))))
+    let zero = eqb→eq (256 * down e) 0 (and-r (eqb (256 * down e) (m * up e * 1)) (eqb (256 * down e) 0) k) in
+    omega (arith, zero, down-pos e))
 not-beyond (fin false m e) t =
     refuted (le (decimal 256 0) (fin false m e)) (λ k. not-le-of-lt (ltb→lt (m * up e * 1) (256 * down e) t) (at-most (256 * down e) (m * up e * 1) true k))
 
@@ -38,8 +40,9 @@ exponent n =
     ∙ ap (λ z. z +ℤ pos 71680) (sym (-ℤ-+ℤ-cancel (pos n) (pos 32768)))
     ∙ +ℤ-assoc (pos n -ℤ pos 32768) (pos 32768) (pos 71680)
 
--- ---- the contract
+-- ---- the contract, of the definition
 module _ (semitones : Float) where
+  -- a sum is a value of single precision
   pitch-places : le (decimal 256 0) (pitchOf semitones) ≡ false → Places (pitchOf semitones)
   pitch-places = places (pitchOf semitones) (add-fits binary32 semitones (decimal 128 0))
 
@@ -70,18 +73,19 @@ module _ (semitones : Float) where
       go false = refl
 
   promised : (answer : Ratio) → answer ≡ semitonesToRatio semitones → Promised semitones answer
-  promised answer e = rw e (record { exact = refl; refused = numbered; accurate = accurate })
+  promised answer e = rw e (record { exact = refl; number-is = numbered; accurate = accurate })
 
-  -- ---- the code's two answers; i and j are the places that it reads
+  -- ---- the contract, of the code's two answers
   pub refused : le (decimal 256 0) (pitchOf semitones) ≡ true → Promised semitones (Refused Pitch)
   unfolding semitonesToRatio
   refused beyond = promised (Refused Pitch) (rw beyond)
 
-  module _ (below : le (decimal 256 0) (pitchOf semitones) ≡ false) (i j : ℕ) (i-is : i ≡ toUnsigned 64 (pitchOf semitones)) where
+  -- i and j are the places that it reads
+  module _ (below : le (decimal 256 0) (pitchOf semitones) ≡ false) (i : ℕ) (i-is : i ≡ toUnsigned 64 (pitchOf semitones)) where
     pub i-below : i < 256
     i-below = rw i-is (pitch-places below .integral-below)
 
-    module _ (j-is : j ≡ toUnsigned 64 ((pitchOf semitones ⊖ ofInt binary32 (pos i)) ⊗ decimal 256 0)) where
+    module _ (j : ℕ) (j-is : j ≡ toUnsigned 64 ((pitchOf semitones ⊖ ofInt binary32 (pos i)) ⊗ decimal 256 0)) where
       pub j-below : j < 256
       j-below = rw (j-is, i-is) (pitch-places below .step-below)
 

@@ -1,10 +1,10 @@
 -- Each entry of a table is a whole number of units, and within one part in 2 ^ 24 of the power of two that its place names: HIGH[i] of 2 ^ ((i - 128) / 12) in
 -- units of 2 ^ -34, LOW[j] of 2 ^ (j / 3072) in units of 2 ^ -23. One test for each table, worked out by antt. Assumes nothing.
-use mathlib.Core.Path.{_≡_, refl, sym, ap, _∙_, subst}
+use mathlib.Core.Path.{_≡_, refl, sym, ap, _∙_}
 use mathlib.Core.Bool.{Bool, true, false, _&&_}
 use mathlib.Core.List.{List}
 use Prim.Native.Nat.{ℕ, suc, _+_, _*_, _/_, _%_, _^_, _≤_, _<_}
-use native.Mathlib.Nat.{add-zero, div-add-mod', le-trans, le-of-eq, mul-le-mul-right, mul-right-comm}
+use native.Mathlib.Nat.{add-zero, div-add-mod', le-of-eq, mul-le-mul-right, mul-right-comm}
 use native.Mathlib.Omega.{arith}
 use lib.Dec.{T, leb, ltb, eqb, leb→le, ltb→lt, eqb→eq, lit<}
 use lib.ListN.{getD, length}
@@ -37,7 +37,7 @@ counted k (fin false m e) t =
     (refl, sym (div-add-mod' n (down e)) ∙ ap (λ (z : ℕ). n / down e * down e + z) (eqb→eq (n % down e) 0 t) ∙ add-zero (n / down e * down e))
 
 -- ---- what an entry x of a table is known to be
--- the 3072nd power of a is within one part in 2 ^ 24 of u, both times 16777216 ^ 3072
+-- a is within one part in 2 ^ 24 of the 3072nd root of u
 pub record Near (u a : ℕ) : Type 0 where
   pub least : 16777215 ^ 3072 * u ≤ (16777216 * a) ^ 3072
   pub most : (16777216 * a) ^ 3072 ≤ 16777217 ^ 3072 * u

@@ -1,11 +1,12 @@
--- The two places that a pitch p below 256 reads: its whole part i, and j, which is 256 times its fraction without what is left behind the point.
--- Both are below 256, so both tables have them. p - i and 256 * (p - i) are exact, so 256 * i + j is 256 * p without its fraction.
--- A p with a minus sign, or a NaN, has both places 0. Assumes nothing.
+-- The two places that a pitch p below 256 reads: i, which is p without its fraction, and j, which is 256 * (p - i) without its fraction.
+-- Both are below 256, so each table has an entry there. p - i and 256 * (p - i) are exact, so 256 * i + j is 256 * p without its fraction.
+-- Where p has a minus sign or is a NaN, i and j are 0. Assumes nothing.
 use mathlib.Core.Path.{_≡_, refl, sym, ap, _∙_, subst}
-use mathlib.Core.Bool.{Bool, true, false, _&&_, true≢false}
-use Prim.Native.Nat.{ℕ, zero, suc, _+_, _-_, _*_, _/_, _%_, _^_, _≤_, _<_, min}
-use native.Mathlib.Nat.{le-trans, le-of-eq, le-of-lt, lt-of-le-of-lt, lt-of-lt-of-le, lt-of-not-le, not-le-of-lt, mul-comm, mul-assoc, mul-one, mul-add, mul-lt-mul-of-pos-right}
-use native.Mathlib.Nat.{le-mul-of-pos-right, mod-lt, mod-le, mod-one, mod-eq-sub-div-mul, div-add-mod', div-mul-le-self, div-lt-iff-lt-mul, mul-add-div-right, min-eq-left, zero-div}
+use mathlib.Core.Bool.{true, false, _&&_, true≢false}
+use Prim.Native.Nat.{ℕ, zero, suc, _+_, _-_, _*_, _/_, _%_, _^_, _≤_, _<_}
+use native.Mathlib.Nat.{le-trans, le-of-eq, le-of-lt, lt-of-le-of-lt, lt-of-lt-of-le, lt-of-not-le, not-le-of-lt}
+use native.Mathlib.Nat.{mul-comm, mul-assoc, mul-one, mul-add, mul-lt-mul-of-pos-right, le-mul-of-pos-right, min-eq-left}
+use native.Mathlib.Nat.{mod-lt, mod-le, mod-one, mod-eq-sub-div-mul, div-add-mod', div-mul-le-self, div-lt-iff-lt-mul, mul-add-div-right, zero-div}
 use native.Mathlib.Omega.{arith}
 use lib.Dec.{T, ltb, leb, eqb, ltb→lt, leb→le, eqb→eq, lit<, lit≤}
 use lib.IntN.{ℤ, pos, negsuc}
@@ -104,24 +105,29 @@ module _ (m : ℕ) (e : ℤ) (h : m * up e < 256 * down e) (t : T (fits binary32
   rest-small : rest m e < 2 ^ 24
   rest-small = lt-of-le-of-lt (rest-le m e) (parts m e t .digits)
 
-  difference : HasValue (fin false m e ⊖ ofInt binary32 (pos (whole m e))) false (rest m e) (down e)
+  whole-value : HasValue (ofInt binary32 (pos (whole m e))) false (whole m e) 1
   unfolding ofInt
+  whole-value = round-whole binary32 false (whole m e) (le-trans (le-of-lt whole-below) (lit≤ tt))
+
+  -- rest * 2 ^ k / down e is exact, for the difference and for 256 times that
+  rest-exact : (k : ℕ) → k ≤ 8 → HasValue (round binary32 false (rest m e * 2 ^ k) (down e)) false (rest m e * 2 ^ k) (down e)
+  rest-exact k K = let p = parts m e t in exact (rest m e) k (down e) (p .j) (down-pos e) rest-small (omega (arith, p .j-le)) (p .goes)
+
+  difference : HasValue (fin false m e ⊖ ofInt binary32 (pos (whole m e))) false (rest m e) (down e)
   difference =
-      let p = parts m e t in
-      rw (
-        less-whole binary32 m e (round binary32 false (whole m e) 1) (whole m e) (round-whole binary32 false (whole m e) (le-trans (le-of-lt whole-below) (lit≤ tt))) (div-mul-le-self (m * up e) (down e)),
-        ← mod-eq-sub-div-mul (m * up e) (down e),
-      )
-      (rw mul-one at (exact (rest m e) 0 (down e) (p .j) (down-pos e) rest-small (omega (arith, p .j-le)) (p .goes)))
+      rw (less-whole binary32 m e (ofInt binary32 (pos (whole m e))) (whole m e) whole-value (div-mul-le-self (m * up e) (down e)), ← mod-eq-sub-div-mul (m * up e) (down e))
+      (rw mul-one at (rest-exact 0 (omega arith)))
 
   scaled : HasValue ((fin false m e ⊖ ofInt binary32 (pos (whole m e))) ⊗ decimal 256 0) false (rest m e * 256) (down e)
   scaled =
-      let p = parts m e t in
-      rw (product binary32 (fin false m e ⊖ ofInt binary32 (pos (whole m e))) (decimal 256 0) (rest m e) (down e) 256 1 (down-pos e) (lit< tt) difference (round-whole binary32 false 256 (lit≤ tt)), mul-one)
-      (exact (rest m e) 8 (down e) (p .j) (down-pos e) rest-small (omega (arith, p .j-le)) (p .goes))
+      let d = fin false m e ⊖ ofInt binary32 (pos (whole m e)) in
+      let c = round-whole binary32 false 256 (lit≤ tt) in
+      rw (product binary32 d (decimal 256 0) (rest m e) (down e) 256 1 (down-pos e) (lit< tt) difference c, mul-one) (rest-exact 8 (omega arith))
 
   rest-below : rest m e * 256 / down e < 256
-  rest-below = div-lt-iff-lt-mul (down-pos e) .1 (lt-of-lt-of-le (mul-lt-mul-of-pos-right (mod-lt (m * up e) (down-pos e)) (lit< tt)) (le-of-eq (mul-comm (down e) 256)))
+  rest-below =
+      let h = mul-lt-mul-of-pos-right (mod-lt (m * up e) (down-pos e)) (lit< tt) in
+      div-lt-iff-lt-mul (down-pos e) .1 (lt-of-lt-of-le h (le-of-eq (mul-comm (down e) 256)))
 
   step-is : step (fin false m e) ≡ rest m e * 256 / down e
   step-is = rw integral-is (cut ((fin false m e ⊖ ofInt binary32 (pos (whole m e))) ⊗ decimal 256 0) (rest m e * 256) (down e) (down-pos e) scaled rest-below)
@@ -129,14 +135,14 @@ module _ (m : ℕ) (e : ℤ) (h : m * up e < 256 * down e) (t : T (fits binary32
   together : 256 * whole m e + rest m e * 256 / down e ≡ 256 * (m * up e) / down e
   together =
       sym (mul-add-div-right (down-pos e) (256 * whole m e) (rest m e * 256))
-      ∙ ap (λ (z : ℕ). z / down e) (rw (mul-assoc 256 (whole m e) (down e), mul-comm (rest m e) 256, ← mul-add) (ap (λ (z : ℕ). 256 * z) (div-add-mod' (m * up e) (down e))))
+      ∙ ap (λ (z : ℕ). z / down e) (rw (mul-assoc 256 (whole m e) (down e), mul-comm (rest m e) 256, ← mul-add, div-add-mod' (m * up e) (down e)))
 
 -- ---- both places of any pitch below 256
 below : (m : ℕ) (e : ℤ) → le (decimal 256 0) (fin false m e) ≡ false → m * up e < 256 * down e
 below m e h =
     lt-of-not-le (λ (g : 256 * down e ≤ m * up e).
-    subst T h
-    (le-of-values (decimal 256 0) (fin false m e) 256 1 (m * up e) (down e) (lit< tt) (down-pos e) (round-whole binary32 false 256 (lit≤ tt)) (refl, refl) (le-trans g (le-of-eq (sym (mul-one (m * up e)))))))
+    let c = round-whole binary32 false 256 (lit≤ tt) in
+    subst T h (le-of-values (decimal 256 0) (fin false m e) 256 1 (m * up e) (down e) (lit< tt) (down-pos e) c (refl, refl) (rw (mul-one (m * up e)) g)))
 
 pub places : (p : Float) → T (fits binary32 p) → le (decimal 256 0) p ≡ false → Places p
 unfolding le sub mul round toUnsigned isSignMinus

@@ -1,6 +1,6 @@
 -- Whole numbers and their powers: how three relative bounds, each at the power k, join to one, and how a bound at the power a * b is shown in two stages.
 -- Every power is a variable here, so that nothing large is worked out. Assumes nothing.
-use mathlib.Core.Path.{_≡_, sym, ap, _∙_}
+use mathlib.Core.Path.{_≡_, sym, _∙_}
 use Prim.Native.Nat.{ℕ, zero, suc, _*_, _/_, _^_, _≤_, _<_}
 use native.Mathlib.Nat.{le-trans, le-of-eq, le-of-lt, mul-comm, mul-assoc, mul-left-comm, mul-zero, mul-suc, suc-mul, mul-mul-mul-comm}
 use native.Mathlib.Nat.{mul-le-mul, mul-le-mul-left, le-of-mul-le-mul-right, div-mul-le-self, lt-div-mul-add}

@@ -1,10 +1,10 @@
 -- The product of two entries, HIGH[i] and LOW[j], rounded once: a whole number R of units of 2 ^ -34, whose 3072nd power is within one part in 2 ^ 22 of the exact
 -- one. Of the four parts in 2 ^ 24 each entry takes one and the rounding one. Assumes nothing.
-use mathlib.Core.Path.{_≡_, sym, ap, _∙_, subst}
+use mathlib.Core.Path.{_≡_, sym, ap, _∙_}
 use mathlib.Core.Bool.{false}
 use Prim.Native.Nat.{ℕ, _+_, _-_, _*_, _/_, _^_, _≤_, _<_}
-use native.Mathlib.Nat.{le-trans, le-of-lt, lt-of-lt-of-le, lt-of-le-of-lt, lt-of-not-le, not-le-of-lt, mul-assoc, mul-right-comm, mul-le-mul, mul-le-mul-left, mul-le-mul-right, mul-lt-mul-of-pos-right, mul-pos, le-of-mul-le-mul-right}
-use native.Mathlib.Nat.{le-div-iff-mul-le, eq-of-mul-eq-mul-right}
+use native.Mathlib.Nat.{le-trans, le-of-lt, lt-of-lt-of-le, lt-of-le-of-lt, lt-of-not-le, not-le-of-lt, mul-assoc, mul-right-comm, mul-pos}
+use native.Mathlib.Nat.{mul-le-mul, mul-le-mul-left, mul-le-mul-right, mul-lt-mul-of-pos-right, le-of-mul-le-mul-right, le-div-iff-mul-le, eq-of-mul-eq-mul-right}
 use native.Mathlib.Omega.{arith}
 use lib.Dec.{lit<, lit≤}
 use lib.ListN.{getD}
@@ -18,10 +18,10 @@ use Rattle.ieee754.specs.Single.{_⊗_}
 use Rattle.units.specs.Tables.{«LUT_PITCH_RATIO_HIGH», «LUT_PITCH_RATIO_LOW»}
 use Rattle.units.proofs.Powers.{joined-least, joined-most}
 use Rattle.units.proofs.Rounding.{kept-near}
-use Rattle.units.proofs.Entries.{Near, Entry, high-entry, low-entry}
+use Rattle.units.proofs.Entries.{Entry, high-entry, low-entry}
 use Rattle.units.proofs.Values.{product}
 
--- ---- a product of q / 2 ^ 57, rounded
+-- ---- q / 2 ^ 57, rounded
 -- from units of 2 ^ -149 to units of 2 ^ -34
 coarser : (x : Float) (R : ℕ) → HasValue x false (R * 2 ^ 115) (2 ^ 149) → HasValue x false R (2 ^ 34)
 coarser nan R v = v
@@ -31,7 +31,7 @@ coarser (fin s m e) R v = (
   eq-of-mul-eq-mul-right (2 ^ 115) (pow-pos 115) (m * up e * 2 ^ 34) (R * down e) (mul-assoc (m * up e) (2 ^ 34) (2 ^ 115) ∙ v .1 ∙ mul-right-comm R (2 ^ 115) (down e)),
 )
 
--- what rounding keeps of a whole q / 2 ^ 57, and how many units of 2 ^ -149 that is worth
+-- rounding keeps `digits`, in units of 2 ^ (place - 149)
 abbrev digits : ℕ → ℕ
 digits q = kept 24 (q * 2 ^ 149) (2 ^ 57)
 
@@ -44,6 +44,7 @@ module _ (q : ℕ) (Q : 2 ^ 46 ≤ q) (Q' : q < 2 ^ 69) where
       lt-of-not-le (λ (g : size (q * 2 ^ 149 / 2 ^ 57) ≤ 138).
       not-le-of-lt (lt-of-lt-of-le (size-lt (q * 2 ^ 149 / 2 ^ 57)) (pow-mono g)) (le-div-iff-mul-le {k = 2 ^ 57} (pow-pos 57) .1 (mul-le-mul-right (2 ^ 149) Q)))
 
+  -- the result in units of 2 ^ -34
   units : ℕ
   units = digits q * 2 ^ (place q - 115)
 
@@ -72,13 +73,10 @@ module _ (q : ℕ) (Q : 2 ^ 46 ≤ q) (Q' : q < 2 ^ 69) where
       more n y h = omega arith
 
   fits : digits q * 2 ^ place q < 2 ^ 277
-  fits = rw units-are (shl-lt 162 115 (go units (near .1)))
+  fits = rw units-are (lt-of-lt-of-le (shl-lt 70 115 (few units (near .1))) (lit≤ tt))
     where
-      go : (R : ℕ) → 16777216 * (R * 2 ^ 23) ≤ 16777217 * q → R < 2 ^ 162
-      go R h = lt-of-lt-of-le (few R h) (lit≤ tt)
-        where
-          few : (R : ℕ) → 16777216 * (R * 2 ^ 23) ≤ 16777217 * q → R < 2 ^ 70
-          few R h = omega arith
+      few : (R : ℕ) → 16777216 * (R * 2 ^ 23) ≤ 16777217 * q → R < 2 ^ 70
+      few R h = omega arith
 
   value : HasValue (round binary32 false q (2 ^ 57)) false units (2 ^ 34)
   value = coarser (round binary32 false q (2 ^ 57)) units (rw units-are at (round-val binary32 q (2 ^ 57) fits))

@@ -1,8 +1,8 @@
 -- A fraction in the normal range is rounded to within one part in 2 ^ p of itself, where the format keeps p digits. Assumes nothing.
-use mathlib.Core.Path.{_≡_, sym, ap, _∙_, subst}
+use mathlib.Core.Path.{_≡_, ap, _∙_, subst}
 use mathlib.Core.Bool.{not}
 use Prim.Native.Nat.{ℕ, suc, _+_, _-_, _*_, _/_, _%_, _^_, _≤_, _<_, compare, Ordering, Ordering·lt, Ordering·eq, Ordering·gt}
-use native.Mathlib.Nat.{le-trans, le-of-eq, mul-comm, mul-assoc, mul-left-comm, mul-right-comm, mul-le-mul-left, mul-le-mul-right, mul-pos, mul-add, add-mul, suc-mul, pow-suc}
+use native.Mathlib.Nat.{le-trans, le-of-eq, mul-comm, mul-assoc, mul-left-comm, mul-le-mul-left, mul-le-mul-right, mul-pos, mul-add, add-mul, suc-mul, pow-suc}
 use native.Mathlib.Nat.{mod-lt, div-add-mod', le-div-iff-mul-le}
 use native.Mathlib.Omega.{arith}
 use lib.Dec.{T, isLe, isEq, leb→le, nleb→lt, eqb→eq}

@@ -37,7 +37,8 @@ pub record Accurate (semitones : Float) (answer : Ratio) : Type 0 where
 abbrev pub InTables : Float → Type 0
 InTables p = T (le (decimal 0 0) p) × T (lt p (decimal 256 0))
 
+-- all that `semitones_to_ratio` promises of its answer, for every input
 pub record Promised (semitones : Float) (answer : Ratio) : Type 0 where
   pub exact : answer ≡ semitonesToRatio semitones
-  pub refused : number answer ≡ cond (le (decimal 256 0) (pitchOf semitones)) 6 0
+  pub number-is : number answer ≡ cond (le (decimal 256 0) (pitchOf semitones)) 6 0
   pub accurate : InTables (pitchOf semitones) → Accurate semitones answer

@@ -23,11 +23,11 @@ ratio semitones =
     let «pitch_fractional» = pitch ⊖ ofInt binary32 (pos «pitch_integral») in
     getD «LUT_PITCH_RATIO_HIGH» «pitch_integral» nan ⊗ getD «LUT_PITCH_RATIO_LOW» (toUnsigned 64 («pitch_fractional» ⊗ decimal 256 0)) nan
 
--- The one pitch that the Rust has no ratio for is one of 256 or more: it ends past the first table.
+-- A pitch of 256 or more lies past the end of the tables, where the Rust panics: refusal 6.
 unfoldable pub semitonesToRatio : Float → Ratio
 semitonesToRatio semitones = cond (le (decimal 256 0) (pitchOf semitones)) (Refused Pitch) (Of (ratio semitones))
 
--- what an answer says: the number of its refusal, and 0 for a ratio
+-- the number that an answer stands for: that of its refusal, and 0 for a ratio
 abbrev pub number : Ratio → ℕ
 number (Of r) = 0
 number (Refused refusal) = Refusal.number refusal

@@ -1,7 +1,5 @@
 -- `units::semitones_to_ratio` meets its contract. Assumes nothing.
-use mathlib.Core.Path.{_≡_}
-use mathlib.Core.Bool.{false}
-use Prim.Native.Nat.{ℕ, _*_, _^_, _<_}
+use Prim.Native.Nat.{ℕ, _^_, _<_}
 use native.Mathlib.Nat.{le-trans, le-of-lt}
 use native.Mathlib.Omega.{arith}
 use lib.Dec.{T, le→leb, lit≤}
@@ -22,7 +20,9 @@ truncate-usize-requires c κs = search needs
 
 int-to-float-pitch-fractional : tie.Need-int-to-float-pitch-fractional
 unfolding round ofBits inFloat
-int-to-float-pitch-fractional c = counted _ (i-below (c .before .before .before .args .semitones) (c .before .before .if1 .left) _ 0 (c .before .truncate-usize .ensures))
+int-to-float-pitch-fractional c =
+    let start = c .before .before in
+    counted _ (i-below (start .before .args .semitones) (start .if1 .left) _ (c .before .truncate-usize .ensures))
   where
     counted : (i : ℕ) → i < 256 → T (inFloat binary32 (pos i))
     counted i h = le→leb i (2 ^ 24) (le-trans (le-of-lt h) (lit≤ tt))
@@ -34,7 +34,7 @@ array-read-t8 : tie.Need-array-read-t8
 unfolding round ofBits
 array-read-t8 c =
     let start = c .before .before .before in
-    i-below (start .before .args .semitones) (start .if1 .left) _ 0 (c .before .before .truncate-usize .ensures)
+    i-below (start .before .args .semitones) (start .if1 .left) _ (c .before .before .truncate-usize .ensures)
 
 mul-t10 : tie.Need-mul-t10
 mul-t10 c = omega (arith, array-read-t8 c)
@@ -43,7 +43,7 @@ array-read-t17 : tie.Need-array-read-t17
 unfolding round ofBits
 array-read-t17 c =
     let start = c .before .before .before in
-    j-below (start .before .args .semitones) (start .if1 .left) _ _ (c .before .before .truncate-usize .ensures) (c .truncate-usize2 .ensures)
+    j-below (start .before .args .semitones) (start .if1 .left) _ (c .before .before .truncate-usize .ensures) _ (c .truncate-usize2 .ensures)
 
 mul-t14 : tie.Need-mul-t14
 mul-t14 c = omega (arith, array-read-t17 c)
@@ -52,7 +52,7 @@ returns-2 : tie.Need-returns-2
 unfolding round ofBits «LUT_PITCH_RATIO_HIGH» «LUT_PITCH_RATIO_LOW»
 returns-2 c =
     let start = c .before .before .before in
-    looked-up (start .before .args .semitones) (start .if1 .left) _ _ (c .before .before .truncate-usize .ensures) (c .truncate-usize2 .ensures)
+    looked-up (start .before .args .semitones) (start .if1 .left) _ (c .before .before .truncate-usize .ensures) _ (c .truncate-usize2 .ensures)
 
 pub semitones-to-ratio-spec : {M : Type 1} → statement M
 semitones-to-ratio-spec =

@@ -1,9 +1,9 @@
-pub mod Powers
-pub mod Rounding
-pub mod Table
-pub mod Entries
-pub mod Values
-pub mod Places
-pub mod Product
-pub mod Accuracy
+mod Powers
+mod Rounding
+mod Table
+mod Entries
+mod Values
+mod Places
+mod Product
+mod Accuracy
 pub mod InRange

@@ -6,14 +6,14 @@ use refusal::Refusal;
 
 mod tables; // tables.rt: LUT_PITCH_RATIO_HIGH and LUT_PITCH_RATIO_LOW
 
-// The ratio of a pitch, or the refusal of one that lies beyond the tables.
+// The ratio of a pitch, or the refusal of one that lies past the end of the tables.
 pub enum Ratio {
     Of(f32),
     Refused(Refusal),
 }
 
 impl Ratio {
-    // The ratio; `other` in place of one that was refused.
+    // The ratio, or `other` where there is none.
     pub fn unwrap_or(self, other: f32) -> f32
         ensures { λ r. ⌜ r ≡ spec.unwrapOr self other ⌝ }
     {
@@ -24,8 +24,9 @@ impl Ratio {
     }
 }
 
-// 2^(semitones / 12). Both tables end at a pitch of 256, that is 128 semitones; below -128 semitones
-// the ratio stays that of -128, and so it does for a pitch that is not a number.
+// The ratio 2^(semitones / 12): whole semitones by one table, 256ths of a semitone by the other.
+// `pitch` counts from the first entry, at -128 semitones; below 256 it has a place in both tables. One
+// that is negative, or not a number, reads the first entry of each.
 pub fn semitones_to_ratio(semitones: f32) -> Ratio
     ensures { λ r. ⌜ Promised semitones r ⌝ }
 {

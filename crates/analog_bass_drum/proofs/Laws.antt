@@ -8,7 +8,7 @@ use Rattle.refusal.specs.Refusal.{KnobIn, isBlockLength, isFrequency, isUnit}
 use Rattle.refusal.proofs.Laws.{passed}
 use Rattle.refusal.proofs.Knobs.{unit-bound, times}
 use Rattle.units.specs.Units.{ratio, semitonesToRatio, unwrapOr}
-use Rattle.units.proofs.InRange.{in-range}
+use Rattle.units.proofs.InRange.{unwrapped}
 use Rattle.analog_bass_drum.specs.AnalogBassDrum.{renderRefusal}
 
 pub knobs-in : (size : ℕ) (accent f0 tone decay a s : Float) → renderRefusal size accent f0 tone decay a s ≡ 0 → KnobIn tone × KnobIn decay
@@ -22,4 +22,4 @@ knobs-in size accent f0 tone decay a s h =
 
 -- a knob times at most 127 semitones
 pub knob-ratio : (k : ℕ) → k ≤ 127 → (x other : Float) → KnobIn x → unwrapOr (semitonesToRatio (x ⊗ decimal k 0)) other ≡ ratio (x ⊗ decimal k 0)
-knob-ratio k h x other q = rw (in-range 0 k (x ⊗ decimal k 0) (omega arith) h (times k (omega arith) x (unit-bound x q)))
+knob-ratio k h x other q = unwrapped 0 k (x ⊗ decimal k 0) (omega arith) h (times k (omega arith) x (unit-bound x q)) other

@@ -8,7 +8,7 @@ use lib.Ieee.{Float, binary32, le}
 use lib.Ieee.Back.{round-whole}
 use Rattle.ieee754.specs.Single.{decimal}
 use Rattle.ieee754.proofs.Bounds.{Bound, add-bound, whole-bound, bound-below}
-use Rattle.units.specs.Units.{pitchOf, ratio, semitonesToRatio}
+use Rattle.units.specs.Units.{pitchOf, ratio, semitonesToRatio, unwrapOr}
 use Rattle.units.specs.declared.Ratio.the-variants.{Of}
 
 module _ (a b : ℕ) (semitones : Float) (A : a ≤ 2 ^ 24) (B : b ≤ 127) (bound : Bound a b semitones) where
@@ -20,3 +20,7 @@ module _ (a b : ℕ) (semitones : Float) (A : a ≤ 2 ^ 24) (B : b ≤ 127) (bou
   pub in-range : semitonesToRatio semitones ≡ Of (ratio semitones)
   unfolding semitonesToRatio
   in-range = rw pitch-below
+
+  -- so what a voice puts in place of a refused ratio is never taken
+  pub unwrapped : (other : Float) → unwrapOr (semitonesToRatio semitones) other ≡ ratio semitones
+  unwrapped other = rw in-range

@@ -1,0 +1,40 @@
+-- The five passes over a block leave what one pass leaves that takes each sample through all five: the same samples and the same states. Assumes nothing.
+use mathlib.Core.Path.{_≡_, sym, _∙_, ap}
+use mathlib.Core.List.{List}
+use Prim.Native.Nat.{ℕ}
+use lib.Ieee.{Float}
+use Rattle.block.specs.Block.{samples, after, scan, scanned, then}
+use Rattle.block.proofs.Blocks.{scan-then, scanned-then, samples-into, after-into}
+use Rattle.filter.specs.Svf as Svf
+use Rattle.filter.specs.declared.FilterMode.the-variants.{BandPass, HighPass}
+use Rattle.hihat.specs.declared.chain.Chain.{Chain}
+use Rattle.hihat.specs.declared.chain.Settings.{Settings}
+use Rattle.hihat.specs.SquareNoise as SquareNoise
+use Rattle.hihat.specs.Chain.{clocked, amplified, filtered, passed, states, onePass, States}
+
+module _ (b : Settings) (n : ℕ) (c : Chain) where
+  pub one-pass-samples : filtered b n c ≡ samples (onePass b) n (states c)
+  one-pass-samples = rw (scan-then, scan-then, scan-then, samples-into)
+
+  pub one-pass-states : states (passed b n c) ≡ after (onePass b) n (states c)
+  one-pass-states = rw (after-into, scanned-then, scanned-then, scanned-then)
+
+-- a chain is known by its states
+joined : States → Chain
+joined s = record {
+  «square_noise» = s .first;
+  «noise_coloration_svf» = s .second .first;
+  clock = s .second .second .first;
+  vca = s .second .second .second .first;
+  hpf = s .second .second .second .second;
+}
+
+known-by-states : (c d : Chain) → states c ≡ states d → c ≡ d
+unfolding joined
+known-by-states c d e = ap joined e
+
+-- the loop's end: what one pass leaves is what the five leave
+module _ (b : Settings) (n : ℕ) (c : Chain) where
+  pub five-passes : (d : Chain) (out : List Float) → (states d ≡ after (onePass b) n (states c)) × (out ≡ samples (onePass b) n (states c))
+      → (d ≡ passed b n c) × (out ≡ filtered b n c)
+  five-passes d out e = (known-by-states d (passed b n c) (e .0 ∙ sym (one-pass-states b n c)), e .1 ∙ sym (one-pass-samples b n c))

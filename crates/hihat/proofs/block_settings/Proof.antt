@@ -1,0 +1,56 @@
+-- `hihat::block_settings` meets its contract. Assumes nothing.
+use borrow.Author.Needs.{needs}
+use native.Mathlib.Omega.{arith}
+use lib.Ieee.{round, ofBits}
+use Rattle.hihat.proofs.Laws.{minus-knob-ratio}
+use Rattle.hihat.specs.Hihat.{settings}
+use Rattle.hihat.proofs.block_settings.Statement.{statement}
+use Rattle.hihat.proofs.block_settings.Tie as tie
+
+semitones-to-ratio-requires : tie.Need-semitones-to-ratio-requires
+semitones-to-ratio-requires c κs = search needs
+
+unwrap-or-requires : tie.Need-unwrap-or-requires
+unwrap-or-requires c κs = search needs
+
+semitones-to-ratio-requires-2 : tie.Need-semitones-to-ratio-requires-2
+semitones-to-ratio-requires-2 c κs = search needs
+
+unwrap-or-requires-2 : tie.Need-unwrap-or-requires-2
+unwrap-or-requires-2 c κs = search needs
+
+increments-requires : tie.Need-increments-requires
+increments-requires c κs = search needs
+
+clamp-requires : tie.Need-clamp-requires
+clamp-requires c κs = search needs
+
+returns : tie.Need-returns
+unfolding settings round ofBits
+returns c =
+    let c₁ = c .before in
+    let c₂ = c₁ .before in
+    let c₃ = c₂ .before .before in
+    let s = c₃ .before .before in
+    rw (
+      c .clamp .ensures,
+      c₁ .increments .ensures,
+      c₂ .unwrap-or2 .ensures,
+      c₂ .before .semitones-to-ratio2 .ensures .exact,
+      minus-knob-ratio 36 (omega arith) (s .args .decay) _ (s .pre),
+      c₃ .unwrap-or .ensures,
+      c₃ .before .semitones-to-ratio .ensures .exact,
+      minus-knob-ratio 84 (omega arith) (s .args .decay) _ (s .pre),
+    )
+
+pub block-settings-spec : {M : Type 1} → statement M
+block-settings-spec =
+    tie.close
+    (tie.spec
+    semitones-to-ratio-requires
+    unwrap-or-requires
+    semitones-to-ratio-requires-2
+    unwrap-or-requires-2
+    increments-requires
+    clamp-requires
+    returns)

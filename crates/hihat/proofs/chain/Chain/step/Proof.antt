@@ -1,0 +1,53 @@
+-- `hihat::chain::Chain::step` meets its contract: the last call first. Assumes nothing.
+use borrow.Author.Needs.{needs}
+use mathlib.Core.Path.{refl}
+use Rattle.block.specs.Block.{then, into}
+use Rattle.filter.specs.Svf.{stage}
+use Rattle.hihat.proofs.chain.Chain.step.Statement.{statement}
+use Rattle.hihat.proofs.chain.Chain.step.Tie as tie
+
+step-requires : tie.Need-step-requires
+step-requires c κs = search needs
+
+process-requires : tie.Need-process-requires
+process-requires c κs = search needs
+
+step-requires-2 : tie.Need-step-requires-2
+step-requires-2 c κs = search needs
+
+step-requires-3 : tie.Need-step-requires-3
+step-requires-3 c κs = search needs
+
+process-requires-2 : tie.Need-process-requires-2
+process-requires-2 c κs = search needs
+
+returns : tie.Need-returns
+unfolding into then stage
+returns c =
+    let c₅ = c .before .before .before .before .before in
+    let c₄ = c₅ .before in
+    let c₃ = c₄ .before in
+    let c₂ = c₃ .before in
+    let c₁ = c₂ .before in
+    rw (
+      c₅ .process2 .ensures,
+      c₄ .step3 .ensures .0,
+      c₄ .step3 .ensures .1,
+      c₃ .step2 .ensures .0,
+      c₃ .step2 .ensures .1,
+      c₂ .process .ensures,
+      c₁ .step .ensures .0,
+      c₁ .step .ensures .1,
+    )
+    (refl, refl)
+
+pub step-spec : {M : Type 1} → statement M
+step-spec =
+    tie.close
+    (tie.spec
+    step-requires
+    process-requires
+    step-requires-2
+    step-requires-3
+    process-requires-2
+    returns)

@@ -1,0 +1,66 @@
+-- `hihat::SquareNoise::render` meets its contract, by `block`'s law of a source's loop. Assumes nothing.
+use borrow.Author.Needs.{needs}
+use Prim.Native.Nat.{_-_}
+use native.Mathlib.Omega.{arith}
+use lib.ListN.{length, length-set}
+use Rattle.block.specs.Block.{source}
+use Rattle.block.proofs.Blocks.{Going, begin, end-source}
+use Rattle.block.proofs.Blocks.{turn as going}
+use Rattle.hihat.specs.SquareNoise.{turn}
+use Rattle.hihat.proofs.square_noise.SquareNoise.render.Statement.{statement}
+use Rattle.hihat.proofs.square_noise.SquareNoise.render.Tie as tie
+
+abbrev Inv-loop : tie.InvT-loop
+Inv-loop f0 out₀ increment noise₀ i₀ out noise i = Going (source (turn increment)) noise₀ out₀ out₀ noise out i
+
+abbrev μ-loop : tie.MeasureT-loop
+μ-loop f0 out₀ increment noise₀ i₀ out noise i = length out - i
+
+increments-requires : tie.Need-increments-requires Inv-loop μ-loop
+increments-requires c κs = search needs
+
+loop-holds : tie.Need-loop-holds Inv-loop μ-loop
+loop-holds c = begin _ _ _ _ (omega arith)
+
+step-requires : tie.Need-step-requires Inv-loop μ-loop
+step-requires c κs = search needs
+
+mul-out : tie.Need-mul-out Inv-loop μ-loop
+mul-out c = search needs
+
+slice-write-out : tie.Need-slice-write-out Inv-loop μ-loop
+slice-write-out c = search needs
+
+add-i : tie.Need-add-i Inv-loop μ-loop
+add-i c = search needs
+
+loop-less : tie.Need-loop-less Inv-loop μ-loop
+loop-less c = simp length-set (omega arith)
+
+loop-again : tie.Need-loop-again Inv-loop μ-loop
+loop-again c =
+    let l = c .before .before .before in
+    rw (c .before .step .ensures .0, c .before .step .ensures .1) (going _ _ _ _ _ _ _ (l .loop .inv) (omega (arith, l .loop .inv .long)))
+
+same-length : tie.Need-same-length Inv-loop μ-loop
+same-length c = c .before .loop .inv .long
+
+returns : tie.Need-returns Inv-loop μ-loop
+returns c = rw (← c .before .before .increments .ensures) (end-source _ _ _ _ _ _ (c .before .loop .inv) (c .loop-test .left))
+
+pub render-spec : {M : Type 1} → statement M
+render-spec =
+    tie.close
+    (tie.spec
+    Inv-loop
+    μ-loop
+    increments-requires
+    loop-holds
+    step-requires
+    mul-out
+    slice-write-out
+    add-i
+    loop-less
+    loop-again
+    same-length
+    returns)

@@ -1,0 +1,23 @@
+-- `hihat::square_noise::level` meets its contract. Assumes nothing.
+use borrow.Author.Needs.{needs}
+use Prim.Native.Nat.{_^_}
+use native.Mathlib.Omega.{arith}
+use lib.Dec.{le→leb}
+use lib.Ieee.{inFloat, round, ofBits}
+use Rattle.hihat.specs.SquareNoise.{level}
+use Rattle.hihat.proofs.square_noise.level.Statement.{statement}
+use Rattle.hihat.proofs.square_noise.level.Tie as tie
+
+count-high-requires : tie.Need-count-high-requires
+count-high-requires c κs = search needs
+
+int-to-float-result : tie.Need-int-to-float-result
+unfolding inFloat
+int-to-float-result c = le→leb (c .before .count-high .result) (2 ^ 24) (omega arith)
+
+returns : tie.Need-returns
+unfolding level round ofBits
+returns c = rw (c .before .count-high .ensures .0)
+
+pub level-spec : {M : Type 1} → statement M
+level-spec = tie.close (tie.spec count-high-requires int-to-float-result returns)

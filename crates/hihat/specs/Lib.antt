@@ -1,0 +1,3 @@
+pub mod SquareNoise
+pub mod Chain
+pub mod Hihat

@@ -1,0 +1,69 @@
+// The sign, the smaller and the larger of two numbers, and a value held between bounds.
+ghost use mathlib.Core.Path.{_≡_};
+ghost use Rattle.ieee754.specs.Operations as Operations;
+
+// x with a positive sign.
+pub fn abs(x: f32) -> f32
+    ensures { λ r. ⌜ r ≡ Operations.abs x ⌝ }
+{
+    if x != x {
+        return x;
+    }
+    f32::from_bits(f32::to_bits(x) & 0x7fff_ffff)
+}
+
+// Whether x is below y, where -0.0 is below 0.0.
+fn precedes(x: f32, y: f32) -> bool
+    ensures { λ r. ⌜ r ≡ Operations.precedes x y ⌝ }
+{
+    if x < y {
+        return true;
+    }
+    if y < x {
+        return false;
+    }
+    if x != x {
+        return false;
+    }
+    f32::to_bits(x) >= 0x8000_0000
+}
+
+// The smaller of two numbers, -0.0 below 0.0; the other operand where one is not a number.
+pub fn minimum_number(x: f32, y: f32) -> f32
+    ensures { λ r. ⌜ r ≡ Operations.minimumNumber x y ⌝ }
+{
+    if x != x {
+        return y;
+    }
+    if y != y {
+        return x;
+    }
+    if precedes(x, y) { x } else { y }
+}
+
+// The larger of two numbers, 0.0 above -0.0; the other operand where one is not a number.
+pub fn maximum_number(x: f32, y: f32) -> f32
+    ensures { λ r. ⌜ r ≡ Operations.maximumNumber x y ⌝ }
+{
+    if x != x {
+        return y;
+    }
+    if y != y {
+        return x;
+    }
+    if precedes(x, y) { y } else { x }
+}
+
+// Rust's `f32::clamp`, with a result for any bounds.
+pub fn clamp(x: f32, lo: f32, hi: f32) -> f32
+    ensures { λ r. ⌜ r ≡ Operations.clamp x lo hi ⌝ }
+{
+    let mut y: f32 = x;
+    if y < lo {
+        y = lo;
+    }
+    if y > hi {
+        y = hi;
+    }
+    y
+}

@@ -1,0 +1,82 @@
+// The square root, a binary digit at a time.
+ghost use mathlib.Core.Path.{_≡_};
+ghost use Prim.Native.Nat.{ℕ, _+_, _*_, _^_, _≤_, _<_};
+ghost use lib.Ieee.{binary32};
+ghost use Rattle.ieee754.specs.Root as Root;
+
+use crate::pattern::packed;
+
+// A whole number's square root without its fraction, and what its square leaves of the number.
+struct Extracted {
+    root: u64,
+    rest: u64,
+}
+
+// The square root of n, a binary digit at a time: each turn takes the next two digits of n.
+fn extract_root(n: u64) -> Extracted
+    requires { ⌜ n < 281474976710656 ⌝ }
+    ensures { λ r. ⌜ (r .root * r .root + r .rest ≡ n) × (r .rest ≤ 2 * r .root) ⌝ }
+{
+    let mut root: u64 = 0;
+    let mut rest: u64 = 0;
+    let mut i: u64 = 24;
+    while i > 0 {
+        i = i - 1;
+        let pair: u64 = (n >> (2 * i)) & 3;
+        let left: u64 = rest * 4 + pair;
+        let trial: u64 = root * 4 + 1;
+        if trial <= left {
+            rest = left - trial;
+            root = root * 2 + 1;
+        } else {
+            rest = left;
+            root = root * 2;
+        }
+    }
+    Extracted {
+        root: root,
+        rest: rest,
+    }
+}
+
+// The square root of digits * 2^(place - 126) units of the smallest value, rounded to the nearest.
+fn rounded_root(place: u32, digits: u32) -> f32
+    requires { ⌜ (place ≤ 500) × (8388608 ≤ digits) × (digits < 16777216) ⌝ }
+    ensures { λ r. ⌜ ((a : ℕ) → a * 2 ^ 126 ≡ digits * 2 ^ place → r ≡ Root.rootOf binary32 a) ⌝ }
+{
+    let e: Extracted = extract_root((digits as u64) << (23 + place % 2));
+    let root: u64 = e.root;
+    let rest: u64 = e.rest;
+    if rest <= root {
+        packed(place / 2, root as u32)
+    } else {
+        packed(place / 2, (root + 1) as u32)
+    }
+}
+
+// The square root of x, rounded to the nearest; that of -0.0 is -0.0, and that of any other negative
+// number is no number.
+pub fn sqrt(x: f32) -> f32
+    ensures { λ r. ⌜ r ≡ Root.sqrt binary32 x ⌝ }
+{
+    if x != x {
+        return x;
+    }
+    let bits: u32 = f32::to_bits(x);
+    if x == 0.0 {
+        return x;
+    }
+    if bits >= 0x8000_0000 {
+        return 0.0 / 0.0;
+    }
+    if bits >= 0x7f80_0000 {
+        return x;
+    }
+    let exponent: u32 = bits >> 23;
+    if exponent == 0 {
+        // a subnormal x: its leading digit moves to bit 23
+        let zeros: u32 = u32::leading_zeros(bits);
+        return rounded_root(134 - zeros, bits << (zeros - 8));
+    }
+    rounded_root(exponent + 125, (bits & 0x7f_ffff) | 0x80_0000)
+}

@@ -1,30 +1,73 @@
--- Bounds on both sides by whole numbers: `Bound a b x` says that x is finite and lies from -a to b. Products, sums and negations keep such bounds,
--- so the pitch that a voice asks for, made of knobs from 0 to 1, is shown to lie below 256. Assumes nothing.
-use mathlib.Core.Path.{_≡_, refl, sym, ap, _∙_, subst}
-use Prim.Native.Nat.{ℕ, zero, suc, _+_, _-_, _*_, _^_, _≤_, _<_}
-use native.Mathlib.Nat.{le-trans, le-of-eq, le-of-lt, not-le-of-lt, mul-one, mul-comm, mul-assoc, mul-left-comm, mul-mul-mul-comm, mul-le-mul, mul-le-mul-right, le-of-mul-le-mul-right, mul-pos, add-mul}
+-- Bounds by whole numbers: `Bound a b x` says that x is finite and lies from -a to b. Negation, products, sums and differences keep such bounds, so what is made
+-- of knobs from 0 to 1 is bounded too. Assumes nothing.
+use mathlib.Core.Path.{_≡_, refl, sym, ap, _∙_}
+use mathlib.Core.Bool.{Bool, true, false, not, cond, _&&_, _||_, true≢false}
+use Prim.Native.Nat.{ℕ, zero, suc, _+_, _-_, _*_, _^_, _≤_, _<_, zero-le}
+use native.Mathlib.Nat.{mul-pos, mul-le-mul, mul-le-mul-right, mul-lt-mul-of-pos-right, le-of-mul-le-mul-right}
+use native.Mathlib.Decide.{decLe}
 use native.Mathlib.Omega.{arith}
-use mathlib.Core.Bool.{Bool, true, false, not, _&&_, _||_, cond, true≢false}
-use lib.Dec.{T, ltb, eqb, ltb→lt, eqb→eq, nltb→le, lit<}
-use lib.Ieee.{Float, nan, inf, fin, Format, binary32, prec, emax, low, up, down, odd, units, round, sum, add, sub, neg, mul, le}
+use borrow.Author.Tests.{ltb-true, ltb-false, le-ltb, ne-eqb}
+use lib.IntN.{ℤ}
+use lib.Dec.{T, ltb, eqb, ltb→lt, eqb→eq, lit<, lit≤}
+use lib.Ieee.{Float, nan, inf, fin, Format, binary32, prec, emax, low, up, down, odd, units, round, sum, unlike, add, sub, neg, mul, le}
 use lib.Ieee.Exact.{HasValue}
-use lib.Ieee.Fits.{round-is, and-l, and-r, down-pos}
-use lib.Ieee.Order.{kept, drop}
+use lib.Ieee.Fits.{round-is, and-l, down-pos}
+use lib.Ieee.Order.{kept, drop, round-mono}
 use lib.Ieee.Back.{round-whole}
 use Rattle.ieee754.specs.Single.{decimal}
-use Rattle.ieee754.proofs.Range.{UpTo, round-upto, upto-of-le, upto-below, minus-zero, at-most, refuted}
 
 abbrev pub Bound : ℕ → ℕ → Float → Type 0
 Bound a b nan = ⊥
 Bound a b (inf s) = ⊥
-Bound a b (fin true m e) = m * up e ≤ a * down e
-Bound a b (fin false m e) = m * up e ≤ b * down e
+Bound a b (fin s m e) = m * up e ≤ cond s a b * down e
 
-abbrev pick : Bool → ℕ → ℕ → ℕ
-pick true a b = a
-pick false a b = b
+-- what is to be shown of an x with a bound, or of a whole number k, is shown of a finite value
+by-bound : (P : Float → Type 0) (a b : ℕ) → ((s : Bool) (m : ℕ) (e : ℤ) → m * up e ≤ cond s a b * down e → P (fin s m e)) → (x : Float) → Bound a b x → P x
+by-bound P a b p nan h = absurd h
+by-bound P a b p (inf s) h = absurd h
+by-bound P a b p (fin s m e) h = p s m e h
 
--- ---- a negative fraction rounds as its magnitude does
+by-value : (P : Float → Type 0) (k : ℕ) → ((m : ℕ) (e : ℤ) → m * up e ≡ k * down e → P (fin false m e)) → (x : Float) → HasValue x false k 1 → P x
+by-value P k p nan v = absurd v
+by-value P k p (inf s) v = absurd v
+by-value P k p (fin true m e) v = absurd (true≢false (v .0))
+by-value P k p (fin false m e) v = p m e (omega (arith, v .1))
+
+-- ---- between 0 and a whole number
+
+below-or-level : (a b : ℕ) → T (ltb a b || (eqb a b && true)) → a ≤ b
+below-or-level a b t = elim (decLe a b) [ yes h ↦ h | no g ↦ absurd (rw (le-ltb a b (omega arith), ne-eqb a b (omega arith)) at t) ]
+
+between-fin : (a b l n : ℕ) (d g : ℤ) (x : Float) → l * up d ≡ 0 * down d → n * up g ≡ b * down g → T (le (fin false l d) x) → T (le x (fin false n g)) → Bound a b x
+unfolding le
+between-fin a b l n d g nan lo hi p q = absurd p
+between-fin a b l n d g (inf true) lo hi p q = absurd p
+between-fin a b l n d g (inf false) lo hi p q = absurd q
+between-fin a b l n d g (fin true m e) lo hi p q =
+    let z = eqb→eq (l * up d * down e) (m * up e * down d) (and-l (eqb (l * up d * down e) (m * up e * down d)) (eqb (l * up d * down e) 0) p) in
+    le-of-mul-le-mul-right {k = down d} (omega (arith, z, ap (λ (k : ℕ). k * down e) lo)) (down-pos d)
+between-fin a b l n d g (fin false m e) lo hi p q =
+    let h = below-or-level (m * up e * down g) (n * up g * down e) q in
+    le-of-mul-le-mul-right {k = down g} (omega (arith, h, ap (λ (k : ℕ). k * down e) hi)) (down-pos g)
+
+between : (a b : ℕ) (x lo hi : Float) → HasValue lo false 0 1 → HasValue hi false b 1 → T (le lo x) → T (le x hi) → Bound a b x
+between a b x lo hi u v =
+    by-value (λ lo. T (le lo x) → T (le x hi) → Bound a b x) 0
+    (λ l d p. by-value (λ hi. T (le (fin false l d) x) → T (le x hi) → Bound a b x) b (λ n g q. between-fin a b l n d g x p q) hi v) lo u
+
+pub knob-bound : (x : Float) → T (le (decimal 0 0) x) → T (le x (decimal 1 0)) → Bound 0 1 x
+knob-bound x = between 0 1 x (decimal 0 0) (decimal 1 0) (round-whole binary32 false 0 zero-le) (round-whole binary32 false 1 (lit≤ tt))
+
+-- ---- negation, and a rounded fraction
+
+pub neg-bound : (a b : ℕ) (x : Float) → Bound a b x → Bound b a (neg x)
+unfolding neg
+neg-bound a b nan h = h
+neg-bound a b (inf s) h = h
+neg-bound a b (fin true m e) h = h
+neg-bound a b (fin false m e) h = h
+
+-- a negative fraction rounds as its magnitude does
 odd-neg : (d q k l : ℕ) → odd d true q k l ≡ neg (odd d false q k l)
 unfolding odd neg
 odd-neg d zero k l = refl
@@ -38,203 +81,126 @@ units-neg f q k = go (ltb (q * 2 ^ k) (2 ^ (low f + suc (emax f))))
     go true = odd-neg (suc (prec f)) q k (low f)
     go false = refl
 
-round-neg : (f : Format) (a c : ℕ) → round f true a c ≡ neg (round f false a c)
-round-neg f a c = round-is f true a c ∙ units-neg f (kept (prec f) (a * 2 ^ low f) c) (drop (prec f) (a * 2 ^ low f) c) ∙ ap neg (sym (round-is f false a c))
+round-neg : (f : Format) (n c : ℕ) → round f true n c ≡ neg (round f false n c)
+round-neg f n c = round-is f true n c ∙ units-neg f (kept (prec f) (n * 2 ^ low f) c) (drop (prec f) (n * 2 ^ low f) c) ∙ ap neg (sym (round-is f false n c))
 
-pub neg-bound : (a b : ℕ) (x : Float) → Bound a b x → Bound b a (neg x)
-unfolding neg
-neg-bound a b nan p = p
-neg-bound a b (inf s) p = p
-neg-bound a b (fin true m e) p = p
-neg-bound a b (fin false m e) p = p
+round-plus : (f : Format) (a b n c : ℕ) → b ≤ 2 ^ prec f → 0 < c → n ≤ b * c → Bound a b (round f false n c)
+round-plus f a b n c B C h =
+    between a b (round f false n c) (round f false 0 1) (round f false b 1) (round-whole f false 0 zero-le) (round-whole f false b B)
+    (round-mono f 0 1 n c (lit< tt) C (omega arith)) (round-mono f n c b 1 C (lit< tt) (omega arith))
 
-upto-bound : (a b : ℕ) (x : Float) → UpTo b x → Bound a b x
-upto-bound a b nan p = p
-upto-bound a b (inf s) p = p
-upto-bound a b (fin true m e) p = absurd p
-upto-bound a b (fin false m e) p = p
+round-bound : (f : Format) (s : Bool) (a b n c : ℕ) → a ≤ 2 ^ prec f → b ≤ 2 ^ prec f → 0 < c → n ≤ cond s a b * c → Bound a b (round f s n c)
+round-bound f true a b n c A B C h = rw (round-neg f n c) (neg-bound b a (round f false n c) (round-plus f b a n c A C h))
+round-bound f false a b n c A B C h = round-plus f a b n c B C h
 
-round-bound : (f : Format) (s : Bool) (a b n c : ℕ) → a ≤ 2 ^ prec f → b ≤ 2 ^ prec f → 0 < c → n ≤ pick s a b * c → Bound a b (round f s n c)
-round-bound f true a b n c A B C h = subst (λ (z : Float). Bound a b z) (sym (round-neg f n c)) (neg-bound b a (round f false n c) (upto-bound b a (round f false n c) (round-upto f a n c A C h)))
-round-bound f false a b n c A B C h = upto-bound a b (round f false n c) (round-upto f b n c B C h)
+pub whole-bound : (k : ℕ) → k ≤ 2 ^ 24 → Bound 0 k (decimal k 0)
+whole-bound k h = round-plus binary32 0 k k 1 h (lit< tt) (omega arith)
 
 -- ---- the product
-scaled : {x y p : ℕ} (j k u w : ℕ) → x ≤ j * u → y ≤ k * w → j * k ≤ p → x * y ≤ p * (u * w)
-scaled {x} {y} {p} j k u w h l r = le-trans (mul-le-mul h l) (le-trans (le-of-eq (mul-mul-mul-comm j u k w)) (mul-le-mul-right (u * w) r))
 
 module _ (f : Format) (a b c d p q : ℕ) (P : p ≤ 2 ^ prec f) (Q : q ≤ 2 ^ prec f) (ad : a * d ≤ p) (bc : b * c ≤ p) (ac : a * c ≤ q) (bd : b * d ≤ q) where
+  sides : (s t : Bool) → cond s a b * cond t c d ≤ cond (unlike s t) p q
+  sides true true = ac
+  sides true false = ad
+  sides false true = bc
+  sides false false = bd
+
   pub mul-bound : (x y : Float) → Bound a b x → Bound c d y → Bound p q (mul f x y)
   unfolding mul
-  mul-bound nan y h k = absurd h
-  mul-bound (inf s) y h k = absurd h
-  mul-bound (fin s m e) nan h k = absurd k
-  mul-bound (fin s m e) (inf t) h k = absurd k
-  mul-bound (fin true m e) (fin true n g) h k = round-bound f false p q (m * up e * (n * up g)) (down e * down g) P Q (mul-pos (down-pos e) (down-pos g)) (scaled a c (down e) (down g) h k ac)
-  mul-bound (fin true m e) (fin false n g) h k = round-bound f true p q (m * up e * (n * up g)) (down e * down g) P Q (mul-pos (down-pos e) (down-pos g)) (scaled a d (down e) (down g) h k ad)
-  mul-bound (fin false m e) (fin true n g) h k = round-bound f true p q (m * up e * (n * up g)) (down e * down g) P Q (mul-pos (down-pos e) (down-pos g)) (scaled b c (down e) (down g) h k bc)
-  mul-bound (fin false m e) (fin false n g) h k = round-bound f false p q (m * up e * (n * up g)) (down e * down g) P Q (mul-pos (down-pos e) (down-pos g)) (scaled b d (down e) (down g) h k bd)
+  mul-bound x y h k =
+      by-bound (λ x. Bound p q (mul f x y)) a b
+      (λ s m e h. by-bound (λ y. Bound p q (mul f (fin s m e) y)) c d
+      (λ t n g k. round-bound f (unlike s t) p q (m * up e * (n * up g)) (down e * down g) P Q (mul-pos (down-pos e) (down-pos g))
+      (omega (arith, mul-le-mul h k, mul-le-mul-right (down e * down g) (sides s t)))) y k) x h
 
--- ---- the sum
-first-part : {x : ℕ} (k u w : ℕ) → x ≤ k * u → x * w ≤ k * (u * w)
-first-part {x} k u w h = le-trans (mul-le-mul-right w h) (le-of-eq (mul-assoc k u w))
+-- ---- sums and differences
 
-second-part : {x : ℕ} (k u w : ℕ) → x ≤ k * w → x * u ≤ k * (u * w)
-second-part {x} k u w h = le-trans (mul-le-mul-right u h) (le-of-eq (mul-assoc k w u ∙ ap (λ (z : ℕ). k * z) (mul-comm w u)))
-
-both : {x y : ℕ} (j k c : ℕ) → x ≤ j * c → y ≤ k * c → x + y ≤ (j + k) * c
-both {x} {y} j k c h l = le-trans (add-le h l) (le-of-eq (sym (add-mul j k c)))
-  where
-    add-le : {x y u w : ℕ} → x ≤ u → y ≤ w → x + y ≤ u + w
-    add-le p q = omega arith
-
--- x / c - y / c of either sign, by what bounds the larger
-unlike : (f : Format) (s : Bool) (x y c a b : ℕ) → a ≤ 2 ^ prec f → b ≤ 2 ^ prec f → 0 < c
-    → (x < y → y - x ≤ pick (not s) a b * c) → (y ≤ x → x - y ≤ pick s a b * c) → Bound a b (sum f s x (not s) y c)
+-- ±x / c + ±y / c, with the signs s and t
+sum-bound : (f : Format) (s t : Bool) (x y c a b : ℕ) → a ≤ 2 ^ prec f → b ≤ 2 ^ prec f → 0 < c
+    → (s ≡ t → x + y ≤ cond s a b * c) → x - y ≤ cond s a b * c → y - x ≤ cond t a b * c → Bound a b (sum f s x t y c)
 unfolding sum
-unlike f true x y c a b A B C h k = go (ltb x y) (ltb y x) (ltb→lt x y) (nltb→le x y) (nltb→le y x)
+sum-bound f true true x y c a b A B C both less more = round-bound f true a b (x + y) c A B C (both refl)
+sum-bound f false false x y c a b A B C both less more = round-bound f false a b (x + y) c A B C (both refl)
+sum-bound f true false x y c a b A B C both less more = go (ltb x y) (ltb y x) refl refl
   where
-    zero-at : (u : ℕ) → x - y ≤ u * c → x ≤ y → x - y ≤ b * c
-    zero-at u p q = le-trans (none x y q) (le-of-eq-zero (b * c))
-      where
-        none : (x y : ℕ) → x ≤ y → x - y ≤ 0
-        none x y q = omega arith
-
-        le-of-eq-zero : (n : ℕ) → 0 ≤ n
-        le-of-eq-zero n = omega arith
-
-    go : (t u : Bool) → (T t → x < y) → (T (not t) → y ≤ x) → (T (not u) → x ≤ y) → Bound a b (cond t (round f false (y - x) c) (round f (true && u) (x - y) c))
-    go true u p q r = round-bound f false a b (y - x) c A B C (h (p tt))
-    go false true p q r = round-bound f true a b (x - y) c A B C (k (q tt))
-    go false false p q r = round-bound f false a b (x - y) c A B C (zero-at a (k (q tt)) (r tt))
-unlike f false x y c a b A B C h k = go (ltb x y) (ltb→lt x y) (nltb→le x y)
+    go : (u v : Bool) → ltb x y ≡ u → ltb y x ≡ v → Bound a b (cond u (round f false (y - x) c) (round f (true && v) (x - y) c))
+    go true v p q = round-bound f false a b (y - x) c A B C more
+    go false true p q = round-bound f true a b (x - y) c A B C less
+    go false false p q = round-bound f false a b (x - y) c A B C (omega (arith, ltb-false x y p, ltb-false y x q))
+sum-bound f false true x y c a b A B C both less more = go (ltb x y)
   where
-    go : (t : Bool) → (T t → x < y) → (T (not t) → y ≤ x) → Bound a b (cond t (round f true (y - x) c) (round f (false && ltb y x) (x - y) c))
-    go true p q = round-bound f true a b (y - x) c A B C (h (p tt))
-    go false p q = round-bound f false a b (x - y) c A B C (k (q tt))
-
-less-l : {x : ℕ} (y j k c : ℕ) → x ≤ j * c → x - y ≤ (j + k) * c
-less-l {x} y j k c h = rw (add-mul j k c) (go x y (j * c) (k * c) h)
-  where
-    go : (x y u w : ℕ) → x ≤ u → x - y ≤ u + w
-    go x y u w h = omega arith
-
-less-r : {x : ℕ} (y j k c : ℕ) → x ≤ k * c → x - y ≤ (j + k) * c
-less-r {x} y j k c h = rw (add-mul j k c) (go x y (j * c) (k * c) h)
-  where
-    go : (x y u w : ℕ) → x ≤ w → x - y ≤ u + w
-    go x y u w h = omega arith
+    go : (u : Bool) → Bound a b (cond u (round f true (y - x) c) (round f (false && ltb y x) (x - y) c))
+    go true = round-bound f true a b (y - x) c A B C more
+    go false = round-bound f false a b (x - y) c A B C less
 
 module _ (f : Format) (a b c d : ℕ) (A : a + c ≤ 2 ^ prec f) (B : b + d ≤ 2 ^ prec f) where
+  wide : (s : Bool) → cond s (a + c) (b + d) ≡ cond s a b + cond s c d
+  wide true = refl
+  wide false = refl
+
   pub add-bound : (x y : Float) → Bound a b x → Bound c d y → Bound (a + c) (b + d) (add f x y)
   unfolding add
-  add-bound nan y h k = absurd h
-  add-bound (inf s) y h k = absurd h
-  add-bound (fin s m e) nan h k = absurd k
-  add-bound (fin s m e) (inf t) h k = absurd k
-  add-bound (fin true m e) (fin true n g) h k =
-      round-bound f true (a + c) (b + d) (m * up e * down g + n * up g * down e) (down e * down g) A B (mul-pos (down-pos e) (down-pos g))
-      (both a c (down e * down g) (first-part a (down e) (down g) h) (second-part c (down e) (down g) k))
-  add-bound (fin false m e) (fin false n g) h k =
-      round-bound f false (a + c) (b + d) (m * up e * down g + n * up g * down e) (down e * down g) A B (mul-pos (down-pos e) (down-pos g))
-      (both b d (down e * down g) (first-part b (down e) (down g) h) (second-part d (down e) (down g) k))
-  add-bound (fin true m e) (fin false n g) h k =
-      unlike f true (m * up e * down g) (n * up g * down e) (down e * down g) (a + c) (b + d) A B (mul-pos (down-pos e) (down-pos g))
-      (λ _. less-r (m * up e * down g) b d (down e * down g) (second-part d (down e) (down g) k))
-      (λ _. less-l (n * up g * down e) a c (down e * down g) (first-part a (down e) (down g) h))
-  add-bound (fin false m e) (fin true n g) h k =
-      unlike f false (m * up e * down g) (n * up g * down e) (down e * down g) (a + c) (b + d) A B (mul-pos (down-pos e) (down-pos g))
-      (λ _. less-r (m * up e * down g) a c (down e * down g) (second-part c (down e) (down g) k))
-      (λ _. less-l (n * up g * down e) b d (down e * down g) (first-part b (down e) (down g) h))
+  add-bound x y h k =
+      by-bound (λ x. Bound (a + c) (b + d) (add f x y)) a b
+      (λ s m e h. by-bound (λ y. Bound (a + c) (b + d) (add f (fin s m e) y)) c d (λ t n g k.
+      let X : m * up e * down g ≤ cond s a b * (down e * down g) = omega (arith, mul-le-mul-right (down g) h) in
+      let Y : n * up g * down e ≤ cond t c d * (down e * down g) = omega (arith, mul-le-mul-right (down e) k) in
+      sum-bound f s t (m * up e * down g) (n * up g * down e) (down e * down g) (a + c) (b + d) A B (mul-pos (down-pos e) (down-pos g))
+      (λ q. rw (wide s) (omega (arith, rw (← q) at Y))) (rw (wide s) (omega arith)) (rw (wide t) (omega arith))) y k) x h
 
 pub sub-bound : (f : Format) (a b c d : ℕ) → a + d ≤ 2 ^ prec f → b + c ≤ 2 ^ prec f → (x y : Float) → Bound a b x → Bound c d y → Bound (a + d) (b + c) (sub f x y)
 unfolding sub
 sub-bound f a b c d A B x y h k = add-bound f a b d c A B x (neg y) h (neg-bound c d y k)
 
--- ---- K + y for y from -K to 0 lies from 0 to K, and x - K for x from 0 to K lies from -K to 0
-value-part : (x k u w : ℕ) → x * 1 ≡ k * u → x * w ≡ k * (u * w)
-value-part x k u w h = ap (λ (z : ℕ). z * w) (sym (mul-one x) ∙ h) ∙ mul-assoc k u w
-
-value-part-r : (x k u w : ℕ) → x * 1 ≡ k * w → x * u ≡ k * (u * w)
-value-part-r x k u w h = ap (λ (z : ℕ). z * u) (sym (mul-one x) ∙ h) ∙ mul-assoc k w u ∙ ap (λ (z : ℕ). k * z) (mul-comm w u)
-
+-- K + y for y from -K to 0 lies from 0 to K, and x - K for x from 0 to K lies from -K to 0
 module _ (f : Format) (K : ℕ) (H : K ≤ 2 ^ prec f) where
-  up-from : (x y c : ℕ) → x ≡ K * c → y ≤ K * c → (x < y → y - x ≤ 0 * c) × (y ≤ x → x - y ≤ K * c)
-  up-from x y c p q = ((λ l. absurd (clash x y (K * c) p q l)), (λ _. less x y (K * c) p))
-    where
-      clash : (x y u : ℕ) → x ≡ u → y ≤ u → x < y → ⊥
-      clash x y u p q l = omega arith
-
-      less : (x y u : ℕ) → x ≡ u → x - y ≤ u
-      less x y u p = omega arith
-
   pub plus-whole : (x y : Float) → HasValue x false K 1 → Bound K 0 y → Bound 0 K (add f x y)
   unfolding add
-  plus-whole nan y v k = absurd v
-  plus-whole (inf s) y v k = absurd v
-  plus-whole (fin true m e) y v k = absurd (true≢false (v .0))
-  plus-whole (fin false m e) nan v k = absurd k
-  plus-whole (fin false m e) (inf t) v k = absurd k
-  plus-whole (fin false m e) (fin true n g) v k =
-      let t = up-from (m * up e * down g) (n * up g * down e) (down e * down g) (value-part (m * up e) K (down e) (down g) (v .1)) (second-part K (down e) (down g) k) in
-      unlike f false (m * up e * down g) (n * up g * down e) (down e * down g) 0 K (omega arith) H (mul-pos (down-pos e) (down-pos g)) (t .0) (t .1)
-  plus-whole (fin false m e) (fin false n g) v k =
-      round-bound f false 0 K (m * up e * down g + n * up g * down e) (down e * down g) (omega arith) H (mul-pos (down-pos e) (down-pos g))
-      (add-zero-le (down e * down g) (le-of-eq (value-part (m * up e) K (down e) (down g) (v .1))) (second-part 0 (down e) (down g) k))
+  plus-whole x y v k =
+      by-value (λ x. Bound 0 K (add f x y)) K
+      (λ m e h. by-bound (λ y. Bound 0 K (add f (fin false m e) y)) K 0 (λ t n g k.
+      let X : m * up e * down g ≡ K * (down e * down g) = omega (arith, ap (λ (z : ℕ). z * down g) h) in
+      let Y : n * up g * down e ≤ cond t K 0 * (down e * down g) = omega (arith, mul-le-mul-right (down e) k) in
+      sum-bound f false t (m * up e * down g) (n * up g * down e) (down e * down g) 0 K zero-le H (mul-pos (down-pos e) (down-pos g))
+      (λ q. omega (arith, rw (← q) at Y)) (omega arith) (past t (m * up e * down g) (n * up g * down e) (down e * down g) X Y)) y k) x v
     where
-      add-zero-le : {x y u : ℕ} (c : ℕ) → x ≤ u → y ≤ 0 * c → x + y ≤ u
-      add-zero-le c p q = omega arith
+      past : (t : Bool) (x y c : ℕ) → x ≡ K * c → y ≤ cond t K 0 * c → y - x ≤ cond t 0 K * c
+      past true x y c p q = omega arith
+      past false x y c p q = omega arith
 
   pub minus-whole : (x y : Float) → Bound 0 K x → HasValue y false K 1 → Bound K 0 (sub f x y)
-  unfolding sub
-  minus-whole nan y h v = absurd h
-  minus-whole (inf s) y h v = absurd h
-  minus-whole (fin s m e) nan h v = absurd v
-  minus-whole (fin s m e) (inf t) h v = absurd v
-  minus-whole (fin s m e) (fin true n g) h v = absurd (true≢false (v .0))
-  minus-whole (fin false m e) (fin false n g) h v =
-      let t = down-to (m * up e * down g) (n * up g * down e) (down e * down g) (first-part K (down e) (down g) h) (value-part-r (n * up g) K (down e) (down g) (v .1)) in
-      unlike f false (m * up e * down g) (n * up g * down e) (down e * down g) K 0 H (omega arith) (mul-pos (down-pos e) (down-pos g)) (t .0) (t .1)
+  unfolding sub add neg
+  minus-whole x y h v =
+      by-bound (λ x. Bound K 0 (sub f x y)) 0 K
+      (λ s m e h. by-value (λ y. Bound K 0 (sub f (fin s m e) y)) K (λ n g k.
+      let X : m * up e * down g ≤ cond s 0 K * (down e * down g) = omega (arith, mul-le-mul-right (down g) h) in
+      let Y : n * up g * down e ≡ K * (down e * down g) = omega (arith, ap (λ (z : ℕ). z * down e) k) in
+      sum-bound f s true (m * up e * down g) (n * up g * down e) (down e * down g) K 0 H zero-le (mul-pos (down-pos e) (down-pos g))
+      (λ q. rw q (omega (arith, rw q at X))) (past s (m * up e * down g) (n * up g * down e) (down e * down g) X Y) (omega arith)) y v) x h
     where
-      down-to : (x y c : ℕ) → x ≤ K * c → y ≡ K * c → (x < y → y - x ≤ K * c) × (y ≤ x → x - y ≤ 0 * c)
-      down-to x y c p q = ((λ _. less x y (K * c) q), (λ _. none x y (K * c) c p q))
-        where
-          less : (x y u : ℕ) → y ≡ u → y - x ≤ u
-          less x y u q = omega arith
+      past : (s : Bool) (x y c : ℕ) → x ≤ cond s 0 K * c → y ≡ K * c → x - y ≤ cond s K 0 * c
+      past true x y c p q = omega arith
+      past false x y c p q = omega arith
 
-          none : (x y u c : ℕ) → x ≤ u → y ≡ u → x - y ≤ 0 * c
-          none x y u c p q = omega arith
-  minus-whole (fin true m e) (fin false n g) h v =
-      round-bound f true K 0 (m * up e * down g + n * up g * down e) (down e * down g) H (omega arith) (mul-pos (down-pos e) (down-pos g))
-      (zero-add-le (down e * down g) (first-part 0 (down e) (down g) h) (le-of-eq (value-part-r (n * up g) K (down e) (down g) (v .1))))
-    where
-      zero-add-le : {x y u : ℕ} (c : ℕ) → x ≤ 0 * c → y ≤ u → x + y ≤ u
-      zero-add-le c p q = omega arith
+-- ---- what is at most b is below any larger whole number
 
--- ---- a whole number, a knob, and what lies below a whole number
-pub whole-bound : (k : ℕ) → k ≤ 2 ^ 24 → Bound 0 k (decimal k 0)
-whole-bound k h = upto-bound 0 k (decimal k 0) (round-upto binary32 k k 1 h (lit< tt) (le-of-eq (sym (mul-one k))))
-
-pub knob-bound : (x : Float) → T (le (decimal 0 0) x) → T (le x (decimal 1 0)) → Bound 0 1 x
-unfolding le round
-knob-bound nan h0 h1 = absurd h0
-knob-bound (inf true) h0 h1 = absurd h0
-knob-bound (inf false) h0 h1 = absurd h1
-knob-bound (fin true m e) h0 h1 = le-trans (le-of-eq (minus-zero m e h0)) (omega arith)
-knob-bound (fin false m e) h0 h1 = upto-of-le 1 (fin false m e) (decimal 1 0) refl (round-whole binary32 false 1 (omega arith)) h1
+fin-below : (a b j : ℕ) (s : Bool) (m n : ℕ) (e d : ℤ) → b < j → m * up e ≤ cond s a b * down e → n * up d ≡ j * down d → le (fin false n d) (fin s m e) ≡ false
+unfolding le
+fin-below a b j true m n e d l h v =
+    let x = n * up d * down e in
+    let some : 0 < x = omega (arith, mul-lt-mul-of-pos-right l (mul-pos (down-pos d) (down-pos e)), ap (λ (k : ℕ). k * down e) v) in
+    rw (ne-eqb x 0 (omega arith)) (go (eqb x (m * up e * down d)))
+  where
+    go : (b : Bool) → (b && false) ≡ false
+    go true = refl
+    go false = refl
+fin-below a b j false m n e d l h v =
+    let x = n * up d * down e in
+    let y = m * up e * down d in
+    let less : y < x =
+    omega (arith, mul-lt-mul-of-pos-right l (mul-pos (down-pos d) (down-pos e)), mul-le-mul-right (down d) h, ap (λ (k : ℕ). k * down e) v) in
+    rw (le-ltb x y (omega arith), ne-eqb x y (omega arith))
 
 pub bound-below : (a b j : ℕ) (x y : Float) → b < j → HasValue y false j 1 → Bound a b x → le y x ≡ false
-unfolding le
-bound-below a b j nan y l v u = absurd u
-bound-below a b j (inf s) y l v u = absurd u
-bound-below a b j (fin s m e) nan l v u = absurd v
-bound-below a b j (fin s m e) (inf t) l v u = absurd v
-bound-below a b j (fin s m e) (fin true n d) l v u = absurd (true≢false (v .0))
-bound-below a b j (fin false m e) (fin false n d) l v u = upto-below b j (fin false m e) (fin false n d) l v u
-bound-below a b j (fin true m e) (fin false n d) l v u = refuted _ (λ t.
-    let z = eqb→eq (n * up d * down e) 0 (and-r (eqb (n * up d * down e) (m * up e * down d)) (eqb (n * up d * down e) 0) t) in
-    let p : 0 < j * (down d * down e) = mul-pos (above l) (mul-pos (down-pos d) (down-pos e)) in
-    let q = value-part (n * up d) j (down d) (down e) (v .1) in
-    omega (arith, z, p, q))
-  where
-    above : {b j : ℕ} → b < j → 0 < j
-    above l = omega arith
+bound-below a b j x y l v h =
+    by-value (λ y. le y x ≡ false) j (λ n d v. by-bound (λ x. le (fin false n d) x ≡ false) a b (λ s m e h. fin-below a b j s m n e d l h v) x h) y v

@@ -1,8 +1,5 @@
-pub mod Fields
-pub mod Whole
-pub mod Pack
-pub mod Rounded
-pub mod Rooted
-pub mod Range
 pub mod Bounds
-pub mod Choice
+pub mod Formats
+pub mod Numbers
+pub mod Fields
+pub mod Units

@@ -1,5 +1,3 @@
 pub mod Operations
 pub mod Root
-pub mod RootLaws
-pub mod RootNearest
 pub mod Single

@@ -1,11 +1,12 @@
-// Conversions between `f32` and integers: a float without its fraction, and a whole number rounded to a float.
+// Conversions between `f32` and integers: a float without its fraction, and a whole number rounded
+// to a float.
 ghost use mathlib.Core.Path.{_≡_};
 ghost use lib.IntN.{pos};
 ghost use lib.Ieee as Ieee;
 ghost use lib.Ieee.{binary32};
 ghost use lib.Ieee.Nearest.{closest};
-
 use crate::pattern::packed;
+use crate::pattern::significand;
 
 // x without its fraction, held at the ends of a `u64`: a negative x and a not-a-number give 0.
 fn truncate_u64(x: f32) -> u64
@@ -22,15 +23,12 @@ fn truncate_u64(x: f32) -> u64
     if exponent < 127 {
         return 0;
     }
-    if exponent >= 191 {
+    if exponent > 190 {
         return 0xffff_ffff_ffff_ffff;
     }
-    let digits: u64 = ((bits & 0x7f_ffff) | 0x80_0000) as u64;
-    if exponent <= 150 {
-        digits >> (150 - exponent)
-    } else {
-        digits << (exponent - 150)
-    }
+    // from bit 63 the leading digit moves down to its place, exponent - 127
+    let digits: u64 = (significand(bits) as u64) << 40;
+    digits >> (190 - exponent)
 }
 
 // x without its fraction, held at the ends of a `u32`.
@@ -77,12 +75,11 @@ fn without_last_byte(n: u32) -> u32
 {
     let kept: u32 = n >> 8;
     let rest: u32 = n & 0xff;
-    if rest < 128 {
-        kept
-    } else if rest == 128 {
-        kept + (kept & 1)
-    } else {
+    // up from above the half, and from the half itself if kept is odd
+    if rest + (kept & 1) > 128 {
         kept + 1
+    } else {
+        kept
     }
 }
 

@@ -1,4 +1,5 @@
-// Conversions and operations of IEEE 754-2019 on `f32`, worked out from bit patterns. Every function has a result for every input.
+// Conversions and operations of IEEE 754-2019 on `f32`, worked out from bit patterns. Each has a
+// result for every input.
 mod convert;
 mod operations;
 mod pattern;

@@ -1,4 +1,4 @@
-// The sign, the smaller and the larger of two numbers, and a value held between bounds.
+// The sign cleared, the smaller and the larger of two numbers, and a value held between bounds.
 ghost use mathlib.Core.Path.{_≡_};
 ghost use Rattle.ieee754.specs.Operations as Operations;
 
@@ -19,13 +19,11 @@ fn precedes(x: f32, y: f32) -> bool
     if x < y {
         return true;
     }
-    if y < x {
+    if x != y {
         return false;
     }
-    if x != x {
-        return false;
-    }
-    f32::to_bits(x) >= 0x8000_0000
+    // equal numbers have one pattern, but for the zeros, of which -0.0 has the larger
+    f32::to_bits(y) < f32::to_bits(x)
 }
 
 // The smaller of two numbers, -0.0 below 0.0; the other operand where one is not a number.

@@ -3,8 +3,8 @@ ghost use mathlib.Core.Path.{_≡_};
 ghost use Prim.Native.Nat.{ℕ, _+_, _*_, _^_, _≤_, _<_};
 ghost use lib.Ieee.{binary32};
 ghost use Rattle.ieee754.specs.Root as Root;
-
 use crate::pattern::packed;
+use crate::pattern::significand;
 
 // A whole number's square root without its fraction, and what its square leaves of the number.
 struct Extracted {
@@ -14,7 +14,7 @@ struct Extracted {
 
 // The square root of n, a binary digit at a time: each turn takes the next two digits of n.
 fn extract_root(n: u64) -> Extracted
-    requires { ⌜ n < 281474976710656 ⌝ }
+    requires { ⌜ n < 2 ^ 48 ⌝ }
     ensures { λ r. ⌜ (r .root * r .root + r .rest ≡ n) × (r .rest ≤ 2 * r .root) ⌝ }
 {
     let mut root: u64 = 0;
@@ -22,15 +22,13 @@ fn extract_root(n: u64) -> Extracted
     let mut i: u64 = 24;
     while i > 0 {
         i = i - 1;
-        let pair: u64 = (n >> (2 * i)) & 3;
-        let left: u64 = rest * 4 + pair;
-        let trial: u64 = root * 4 + 1;
-        if trial <= left {
-            rest = left - trial;
-            root = root * 2 + 1;
-        } else {
-            rest = left;
-            root = root * 2;
+        rest = rest * 4 + ((n >> (2 * i)) & 3);
+        root = root * 2;
+        // what the square grows by where the next digit is 1
+        let growth: u64 = root * 2 + 1;
+        if growth <= rest {
+            rest = rest - growth;
+            root = root + 1;
         }
     }
     Extracted {
@@ -41,7 +39,7 @@ fn extract_root(n: u64) -> Extracted
 
 // The square root of digits * 2^(place - 126) units of the smallest value, rounded to the nearest.
 fn rounded_root(place: u32, digits: u32) -> f32
-    requires { ⌜ (place ≤ 500) × (8388608 ≤ digits) × (digits < 16777216) ⌝ }
+    requires { ⌜ (place ≤ 500) × (2 ^ 23 ≤ digits) × (digits < 2 ^ 24) ⌝ }
     ensures { λ r. ⌜ ((a : ℕ) → a * 2 ^ 126 ≡ digits * 2 ^ place → r ≡ Root.rootOf binary32 a) ⌝ }
 {
     let e: Extracted = extract_root((digits as u64) << (23 + place % 2));
@@ -62,10 +60,10 @@ pub fn sqrt(x: f32) -> f32
     if x != x {
         return x;
     }
-    let bits: u32 = f32::to_bits(x);
     if x == 0.0 {
         return x;
     }
+    let bits: u32 = f32::to_bits(x);
     if bits >= 0x8000_0000 {
         return 0.0 / 0.0;
     }
@@ -78,5 +76,5 @@ pub fn sqrt(x: f32) -> f32
         let zeros: u32 = u32::leading_zeros(bits);
         return rounded_root(134 - zeros, bits << (zeros - 8));
     }
-    rounded_root(exponent + 125, (bits & 0x7f_ffff) | 0x80_0000)
+    rounded_root(exponent + 125, significand(bits))
 }

@@ -1,10 +1,8 @@
--- `ieee754::truncate_u32` meets its contract: what is left of x, at 64 digits, is held at 32. Assumes nothing.
+-- `ieee754::truncate_u32` meets its contract: the whole part of x at 64 digits, held at 32. Assumes nothing.
 use borrow.Author.Needs.{needs}
-use mathlib.Core.Path.{_≡_, refl, sym, ap, _∙_}
-use Prim.Native.Nat.{ℕ, _≤_, _<_, min}
 use native.Mathlib.Omega.{arith}
 use lib.Dec.{lit≤}
-use Rattle.ieee754.proofs.Whole.{narrowed}
+use Rattle.ieee754.proofs.convert.Whole.{narrowed}
 use Rattle.ieee754.proofs.convert.truncate_u32.Statement.{statement}
 use Rattle.ieee754.proofs.convert.truncate_u32.Tie as tie
 

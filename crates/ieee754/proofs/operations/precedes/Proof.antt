@@ -1,30 +1,35 @@
--- `ieee754::precedes` meets its contract (`proofs/Choice.antt`). Assumes nothing.
-use mathlib.Core.Path.{sym, subst}
-use lib.Dec.{T}
-use lib.Ieee.{binary32}
-use Rattle.ieee754.proofs.Fields.{no-nan}
-use Rattle.ieee754.proofs.Choice.{less, more, no-sign, signed}
+-- `ieee754::precedes` meets its contract. Assumes nothing.
+use lib.Ieee.{binary32, eq, ne}
+use borrow.Author.Tests.{not-true}
+use Rattle.ieee754.specs.Operations.{precedes}
+use Rattle.ieee754.proofs.operations.Choice.{first-number, second-number, zeros-in-order}
 use Rattle.ieee754.proofs.operations.precedes.Statement.{statement}
 use Rattle.ieee754.proofs.operations.precedes.Tie as tie
 
 returns : tie.Need-returns
-returns c = less (c .before .args .x) (c .before .args .y) (c .if1 .taken)
+unfolding precedes
+returns c = simp (c .if1 .taken)
 
 returns-2 : tie.Need-returns-2
-returns-2 c = more (c .before .before .args .x) (c .before .before .args .y) (c .before .if1 .left) (c .if2 .taken)
+unfolding precedes ne
+returns-2 c =
+    let a = c .before .before .args in
+    simp (c .before .if1 .left, not-true (eq (a .x) (a .y)) (c .if2 .taken))
+
+float-to-bits-result : tie.Need-float-to-bits-result
+float-to-bits-result c =
+    let a = c .before .before .args in
+    second-number (a .x) (a .y) (c .if2 .left)
+
+float-to-bits-result-2 : tie.Need-float-to-bits-result-2
+float-to-bits-result-2 c =
+    let a = c .before .before .args in
+    first-number (a .x) (a .y) (c .if2 .left)
 
 returns-3 : tie.Need-returns-3
 returns-3 c =
-    let a = c .before .before .before .args in
-    no-sign (a .x) (a .y) (c .before .before .if1 .left) (c .before .if2 .left) (c .if3 .taken)
-
-float-to-bits-result : tie.Need-float-to-bits-result
-float-to-bits-result c = no-nan (c .before .before .before .args .x) (c .if3 .left)
-
-returns-4 : tie.Need-returns-4
-returns-4 c =
-    let s = c .before .before .before in
-    signed (s .args .x) (s .args .y) binary32 (subst T (sym (s .good .0 .1)) tt) (c .before .before .if1 .left) (c .before .if2 .left) (c .if3 .left)
+    let s = c .before .before in
+    zeros-in-order (s .args .x) (s .args .y) (c .if2 .left) binary32 (rw (s .good .0 .1) tt) (rw (s .good .1 .0 .1) tt) (c .before .if1 .left)
 
 pub precedes-spec : {M : Type 1} → statement M
-precedes-spec = tie.close (tie.spec returns returns-2 returns-3 float-to-bits-result returns-4)
+precedes-spec = tie.close (tie.spec returns returns-2 float-to-bits-result float-to-bits-result-2 returns-3)

@@ -1,40 +1,32 @@
--- `ieee754::packed` meets its contract (`proofs/Pack.antt`). Assumes nothing.
+-- `ieee754::packed` meets its contract. Assumes nothing.
 use borrow.Author.Needs.{needs}
-use mathlib.Core.Path.{_≡_, sym, ap, _∙_, subst}
-use mathlib.Core.Bool.{not}
-use Prim.Native.Nat.{ℕ, _+_, _*_, _%_, _^_, _≤_, _<_}
-use native.Mathlib.Nat.{le-trans, lt-of-le-of-lt, mul-le-mul-left, mul-le-mul-right}
+use mathlib.Core.Path.{_≡_, sym}
+use Prim.Native.Nat.{_+_, _*_, _%_, _^_, _<_}
+use native.Mathlib.Nat.{lt-of-le-of-lt, mul-le-mul}
 use native.Mathlib.Omega.{arith}
-use lib.Dec.{T, lit<}
+use lib.Dec.{lit<}
 use lib.Pow.{pow-mono}
-use lib.Ieee.{binary32, ofBits, nanBits}
-use Rattle.ieee754.proofs.Pack.{packed-is, no-nan-bits}
+use lib.Ieee.{binary32}
+use Rattle.ieee754.proofs.pattern.Pack.{packed-is, no-nan-bits}
 use Rattle.ieee754.proofs.pattern.packed.Statement.{statement}
 use Rattle.ieee754.proofs.pattern.packed.Tie as tie
 
-unshifted : (k : ℕ) → k ≤ 252 → k * 8388608 ≡ k * 8388608 % 4294967296
-unshifted k h = omega arith
-
-finite : (k q : ℕ) → k ≤ 252 → q ≤ 16777216 → k * 8388608 + q < 2139095040
-finite k q h l = omega arith
-
-below : (k q : ℕ) → k ≤ 252 → q ≤ 2 ^ 24 → q * 2 ^ k < 2 ^ 277
-below k q h l = lt-of-le-of-lt (le-trans (mul-le-mul-right (2 ^ k) l) (mul-le-mul-left (2 ^ 24) (pow-mono h))) (lit< tt)
+-- nothing is shifted out
+unshifted : (c : tie.Start) → let k = c .args .place in k * 2 ^ 23 % 2 ^ 32 ≡ k * 2 ^ 23
+unshifted c = omega arith
 
 add-result : tie.Need-add-result
 add-result c = search needs
 
 float-from-bits-result : tie.Need-float-from-bits-result
-float-from-bits-result c =
-    let k = c .args .place in
-    let q = c .args .digits in
-    subst (λ (x : ℕ). T (not (nanBits binary32 (x + q)))) (unshifted k (c .pre .0)) (no-nan-bits binary32 (k * 8388608 + q) (finite k q (c .pre .0) (c .pre .2)))
+float-from-bits-result c = rw (unshifted c) (no-nan-bits binary32 (c .args .place * 2 ^ 23 + c .args .digits) (omega arith))
 
 returns : tie.Need-returns
 returns c =
     let k = c .args .place in
     let q = c .args .digits in
-    ap (λ (x : ℕ). ofBits binary32 (x + q)) (sym (unshifted k (c .pre .0))) ∙ packed-is binary32 q k (c .pre .1) (c .pre .2) (below k q (c .pre .0) (c .pre .2))
+    let small : q * 2 ^ k < 2 ^ 277 = lt-of-le-of-lt (mul-le-mul (c .pre .2) (pow-mono (c .pre .0))) (lit< tt) in
+    rw (unshifted c) (packed-is binary32 q k (c .pre .1) (c .pre .2) small)
 
 pub packed-spec : {M : Type 1} → statement M
 packed-spec = tie.close (tie.spec add-result float-from-bits-result returns)

@@ -1,0 +1,50 @@
+-- Laws of whole numbers: the order of squares, digits, and the nearer of two neighbours by a comparison. Assumes nothing.
+use mathlib.Core.Path.{_≡_, refl, sym, ap, _∙_, subst}
+use mathlib.Core.Bool.{not}
+use Prim.Native.Nat.{ℕ, suc, _+_, _-_, _*_, _/_, _%_, _^_, _≤_, _<_, compare, Ordering, Ordering·lt, Ordering·eq, Ordering·gt}
+use native.Mathlib.Nat.{le-antisymm, lt-of-lt-of-le, lt-of-not-le, not-le-of-lt, mul-le-mul, mul-le-mul-right, mul-lt-mul-of-pos-right}
+use native.Mathlib.Omega.{arith}
+use lib.Arith.{lt-of-le-ne}
+use lib.Dec.{T, isLe, isEq, eqb, leb→le, nleb→lt, eqb→eq, eqb-refl}
+use lib.Pow.{pow-add, pow-pos, pow-mono}
+use lib.Ieee.{size, nearest}
+use lib.Ieee.Digits.{size-lt, size-le}
+
+pub sq-lt-back : {a b : ℕ} → a * a < b * b → a < b
+sq-lt-back {a} {b} h = lt-of-not-le (λ (g : b ≤ a). not-le-of-lt h (mul-le-mul g g))
+
+-- n has j + 1 binary digits
+pub size-exact : (j n : ℕ) → 2 ^ j ≤ n → n < 2 ^ suc j → size n ≡ suc j
+size-exact j n lo hi = le-antisymm (size-le n (suc j) hi) (lt-of-not-le (λ (g : size n ≤ j). not-le-of-lt (lt-of-lt-of-le (size-lt n) (pow-mono g)) lo))
+
+-- and with k zeros after them j + 1 + k
+pub shifted : (j n k : ℕ) → 2 ^ j ≤ n → n < 2 ^ suc j → (2 ^ (j + k) ≤ n * 2 ^ k) × (n * 2 ^ k < 2 ^ suc (j + k))
+shifted j n k lo hi =
+    let h : n < 2 * 2 ^ j = omega arith in
+    omega (arith, pow-add 2 j k, mul-le-mul-right (2 ^ k) lo, mul-lt-mul-of-pos-right h (pow-pos k))
+
+pub size-shifted : (j n k : ℕ) → 2 ^ j ≤ n → n < 2 ^ suc j → size (n * 2 ^ k) ≡ suc (j + k)
+size-shifted j n k lo hi = let s = shifted j n k lo hi in size-exact (j + k) (n * 2 ^ k) (s .0) (s .1)
+
+-- what `compare` says
+abbrev Compared : Ordering → ℕ → ℕ → Type 0
+Compared Ordering·lt a b = a < b
+Compared Ordering·eq a b = a ≡ b
+Compared Ordering·gt a b = b < a
+
+compared : (a b : ℕ) → Compared (compare a b) a b
+compared a b = go (compare a b) (leb→le a b) (nleb→lt a b) (eqb→eq a b) (λ (e : a ≡ b). subst (λ (x : ℕ). T (eqb a x)) e (eqb-refl a))
+  where
+    go : (o : Ordering) → (T (isLe o) → a ≤ b) → (T (not (isLe o)) → b < a) → (T (isEq o) → a ≡ b) → (a ≡ b → T (isEq o)) → Compared o a b
+    go Ordering·lt h k e n = lt-of-le-ne (h tt) n
+    go Ordering·eq h k e n = e tt
+    go Ordering·gt h k e n = k tt
+
+-- q or its neighbour, by how a compares with b: whatever holds in each of the three cases
+pub nearest-by : (P : ℕ → Type 0) (q a b : ℕ) → (a < b → P q) → (a ≡ b → P (q + q % 2)) → (b < a → P (suc q)) → P (nearest q (compare a b))
+nearest-by P q a b less tie more = go (compare a b) (compared a b)
+  where
+    go : (o : Ordering) → Compared o a b → P (nearest q o)
+    go Ordering·lt c = less c
+    go Ordering·eq c = tie c
+    go Ordering·gt c = more c

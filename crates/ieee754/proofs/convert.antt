@@ -1,0 +1,3 @@
+-- The laws of the conversions.
+mod Whole
+mod Rounding

@@ -1,0 +1,2 @@
+-- The laws of the choice between two operands.
+pub mod Choice

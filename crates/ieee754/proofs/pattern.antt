@@ -1,0 +1,2 @@
+-- The laws of a pattern that is put together.
+mod Pack

@@ -1,14 +1,14 @@
 -- Bounds by whole numbers: `Bound a b x` says that x is finite and lies from -a to b. Negation, products, sums and differences keep such bounds, so what is made
 -- of knobs from 0 to 1 is bounded too. Assumes nothing.
+use borrow.Author.Tests.{ltb-false, le-ltb, ne-eqb}
 use mathlib.Core.Path.{_≡_, refl, sym, ap, _∙_}
-use mathlib.Core.Bool.{Bool, true, false, not, cond, _&&_, _||_, true≢false}
+use mathlib.Core.Bool.{Bool, true, false, cond, _&&_, _||_, true≢false}
 use Prim.Native.Nat.{ℕ, zero, suc, _+_, _-_, _*_, _^_, _≤_, _<_, zero-le}
 use native.Mathlib.Nat.{mul-pos, mul-le-mul, mul-le-mul-right, mul-lt-mul-of-pos-right, le-of-mul-le-mul-right}
 use native.Mathlib.Decide.{decLe}
 use native.Mathlib.Omega.{arith}
-use borrow.Author.Tests.{ltb-true, ltb-false, le-ltb, ne-eqb}
 use lib.IntN.{ℤ}
-use lib.Dec.{T, ltb, eqb, ltb→lt, eqb→eq, lit<, lit≤}
+use lib.Dec.{T, ltb, eqb, eqb→eq, lit<, lit≤}
 use lib.Ieee.{Float, nan, inf, fin, Format, binary32, prec, emax, low, up, down, odd, units, round, sum, unlike, add, sub, neg, mul, le}
 use lib.Ieee.Exact.{HasValue}
 use lib.Ieee.Fits.{round-is, and-l, down-pos}

@@ -1,7 +1,7 @@
--- Laws of whole numbers: the order of squares, digits, and the nearer of two neighbours by a comparison. Assumes nothing.
-use mathlib.Core.Path.{_≡_, refl, sym, ap, _∙_, subst}
+-- Laws of whole numbers: squares, powers of two, binary digits, and the nearer of two neighbours. Assumes nothing.
+use mathlib.Core.Path.{_≡_, sym, ap, _∙_, subst}
 use mathlib.Core.Bool.{not}
-use Prim.Native.Nat.{ℕ, suc, _+_, _-_, _*_, _/_, _%_, _^_, _≤_, _<_, compare, Ordering, Ordering·lt, Ordering·eq, Ordering·gt}
+use Prim.Native.Nat.{ℕ, suc, _+_, _*_, _%_, _^_, _≤_, _<_, compare, Ordering, Ordering·lt, Ordering·eq, Ordering·gt}
 use native.Mathlib.Nat.{le-antisymm, lt-of-lt-of-le, lt-of-not-le, not-le-of-lt, mul-le-mul, mul-le-mul-right, mul-lt-mul-of-pos-right}
 use native.Mathlib.Omega.{arith}
 use lib.Arith.{lt-of-le-ne}
@@ -13,11 +13,17 @@ use lib.Ieee.Digits.{size-lt, size-le}
 pub sq-lt-back : {a b : ℕ} → a * a < b * b → a < b
 sq-lt-back {a} {b} h = lt-of-not-le (λ (g : b ≤ a). not-le-of-lt h (mul-le-mul g g))
 
--- n has j + 1 binary digits
-pub size-exact : (j n : ℕ) → 2 ^ j ≤ n → n < 2 ^ suc j → size n ≡ suc j
-size-exact j n lo hi = le-antisymm (size-le n (suc j) hi) (lt-of-not-le (λ (g : size n ≤ j). not-le-of-lt (lt-of-lt-of-le (size-lt n) (pow-mono g)) lo))
+pub pow-swap : (a b c d : ℕ) → a + b ≡ c + d → 2 ^ a * 2 ^ b ≡ 2 ^ c * 2 ^ d
+pow-swap a b c d e = sym (pow-add 2 a b) ∙ ap (λ (k : ℕ). 2 ^ k) e ∙ pow-add 2 c d
 
--- and with k zeros after them j + 1 + k
+-- how many binary digits n has
+pub size-gt : (j n : ℕ) → 2 ^ j ≤ n → j < size n
+size-gt j n h = lt-of-not-le (λ (g : size n ≤ j). not-le-of-lt (lt-of-lt-of-le (size-lt n) (pow-mono g)) h)
+
+pub size-exact : (j n : ℕ) → 2 ^ j ≤ n → n < 2 ^ suc j → size n ≡ suc j
+size-exact j n lo hi = le-antisymm (size-le n (suc j) hi) (size-gt j n lo)
+
+-- and with k zeros after them
 pub shifted : (j n k : ℕ) → 2 ^ j ≤ n → n < 2 ^ suc j → (2 ^ (j + k) ≤ n * 2 ^ k) × (n * 2 ^ k < 2 ^ suc (j + k))
 shifted j n k lo hi =
     let h : n < 2 * 2 ^ j = omega arith in

@@ -1,15 +1,14 @@
 -- Finite values in units of the smallest value of a format, 2 ^ -low, in either format: which of them a format holds, and their patterns. Assumes nothing.
+use borrow.Author.Tests.{lt-ltb}
 use mathlib.Core.Path.{_≡_, refl, sym, ap, _∙_}
-use mathlib.Core.Bool.{Bool, false, cond, not, true≢false, true}
+use mathlib.Core.Bool.{Bool, false, cond}
 use Prim.Native.Nat.{ℕ, suc, _+_, _-_, _*_, _/_, _%_, _^_, _≤_, _<_}
 use native.Mathlib.Nat.{lt-of-le-of-lt, lt-of-lt-of-le, le-refl, lt-of-not-le}
 use native.Mathlib.Omega.{arith}
-use borrow.Author.Tests.{lt-ltb}
 use lib.IntN.{ℤ}
 use lib.Dec.{T}
-use lib.Pow.{pow-lt, pow-add, pow-pos, pow-mono, shl-lt}
-use lib.Ieee.{Float, nan, inf, fin, Format, prec, emax, low, up, down, size, units, fits, hid, ones, top, toBits, ofBits, isNan}
-use lib.Ieee.Bits.{ofBits-toBits}
+use lib.Pow.{pow-lt, pow-mono, shl-lt}
+use lib.Ieee.{Float, nan, inf, fin, Format, prec, emax, low, up, down, size, units, fits, hid, ones, top, toBits, isNan}
 use lib.Ieee.Exact.{HasValue}
 use lib.Ieee.Fits.{odd-fits, down-pos}
 use lib.Ieee.Nearest.{div-same}

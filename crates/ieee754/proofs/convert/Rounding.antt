@@ -1,16 +1,16 @@
 -- Rounding to the nearest, a tie to the even one: a fraction as a program rounds it, and a whole number as a float, in either format. Assumes nothing.
-use mathlib.Core.Path.{_≡_, refl, sym, ap, _∙_}
+use mathlib.Core.Path.{_≡_, ap, _∙_}
 use mathlib.Core.Bool.{false}
 use Prim.Native.Nat.{ℕ, suc, _+_, _-_, _*_, _/_, _%_, _^_, _≤_, _<_}
 use native.Mathlib.Nat.{div-one}
 use native.Mathlib.Omega.{arith}
 use lib.IntN.{pos}
-use lib.Pow.{pow-add, pow-pos}
-use lib.Ieee.{Format, prec, emax, low, size, units, round, ofInt}
+use lib.Pow.{pow-pos}
+use lib.Ieee.{Format, prec, low, size, units, ofInt}
 use lib.Ieee.Fits.{two, round-is}
 use lib.Ieee.Nearest.{closest, closest-same}
 use Rattle.ieee754.proofs.Formats.{emax-two}
-use Rattle.ieee754.proofs.Numbers.{size-shifted, nearest-by}
+use Rattle.ieee754.proofs.Numbers.{pow-swap, size-shifted, nearest-by}
 
 -- a / b goes up where twice the remainder is above b, or equals b under an odd quotient
 pub closest-up : (a b : ℕ) → b < a % b * 2 + a / b % 2 → closest a b ≡ a / b + 1
@@ -19,7 +19,7 @@ closest-up a b h = nearest-by (λ d. d ≡ a / b + 1) (a / b) (a % b * 2) b (λ 
 pub closest-down : (a b : ℕ) → a % b * 2 + a / b % 2 ≤ b → closest a b ≡ a / b
 closest-down a b h = nearest-by (λ d. d ≡ a / b) (a / b) (a % b * 2) b (λ l. omega arith) (λ l. omega arith) (λ l. omega arith)
 
--- a whole number n of j + 1 digits: with z zeros after it it has w digits, of which the format keeps its own
+-- a whole number n of j + 1 digits: with z zeros after it, it has w digits, of which the format keeps its own
 module _ (f : Format) (w z j n : ℕ) (W : prec f ≤ w) (at : z + suc j ≡ w) (lo : 2 ^ j ≤ n) (hi : n < 2 ^ suc j) where
   abbrev k : ℕ
   k = suc j + low f - prec f
@@ -30,6 +30,7 @@ module _ (f : Format) (w z j n : ℕ) (W : prec f ≤ w) (at : z + suc j ≡ w) 
   pub ofInt-packed : ofInt f (pos n) ≡ units f false (closest (n * 2 ^ z) (2 ^ (w - prec f))) k
   unfolding ofInt
   ofInt-packed =
-      let places : 2 ^ low f * 2 ^ (w - prec f) ≡ 2 ^ z * 2 ^ k = sym (pow-add 2 (low f) (w - prec f)) ∙ ap (λ (x : ℕ). 2 ^ x) (omega (arith, two f, emax-two f)) ∙ pow-add 2 z k in
-      let same : n * 2 ^ low f * 2 ^ (w - prec f) ≡ n * 2 ^ z * (1 * 2 ^ k) = omega (arith, ap (λ (x : ℕ). n * x) places) in
-      round-is f false n 1 ∙ rw (drops, closest-same (n * 2 ^ low f) (1 * 2 ^ k) (n * 2 ^ z) (2 ^ (w - prec f)) (omega (arith, pow-pos k)) (pow-pos (w - prec f)) same)
+      let d = 2 ^ (w - prec f) in
+      let places = pow-swap (low f) (w - prec f) z k (omega (arith, two f, emax-two f)) in
+      let same : n * 2 ^ low f * d ≡ n * 2 ^ z * (1 * 2 ^ k) = omega (arith, ap (λ (x : ℕ). n * x) places) in
+      round-is f false n 1 ∙ rw (drops, closest-same (n * 2 ^ low f) (1 * 2 ^ k) (n * 2 ^ z) d (omega (arith, pow-pos k)) (pow-pos (w - prec f)) same)

@@ -1,13 +1,13 @@
 -- The whole part of a float, from the fields of its bit pattern, in either format, at any width w of an unsigned integer. Assumes nothing.
-use mathlib.Core.Path.{_≡_, refl, sym, ap, _∙_}
+use borrow.Author.Tests.{ltb-true, ltb-false}
+use mathlib.Core.Path.{_≡_, refl, ap}
 use mathlib.Core.Logic.{inl, inr}
 use mathlib.Core.Bool.{true, false, not, true≢false, false≢true}
-use Prim.Native.Nat.{ℕ, zero, suc, _+_, _-_, _*_, _/_, _%_, _^_, _≤_, _<_, min}
-use native.Mathlib.Nat.{lt-of-lt-of-le, le-trans, mul-le-mul-right, div-eq-of-lt, le-div-iff-mul-le, eq-or-lt-of-le, zero-mul, zero-div}
+use Prim.Native.Nat.{ℕ, _+_, _-_, _*_, _/_, _%_, _^_, _≤_, _<_, min}
+use native.Mathlib.Nat.{lt-of-lt-of-le, mul-le-mul-right, div-eq-of-lt, le-div-iff-mul-le, eq-or-lt-of-le, zero-div}
 use native.Mathlib.Omega.{arith}
-use borrow.Author.Tests.{ltb-true, ltb-false}
 use lib.IntN.{pos, negℤ}
-use lib.Dec.{T, ltb}
+use lib.Dec.{T}
 use lib.Pow.{pow-add, pow-pos, pow-mono, pow-lt, shl-lt, shr-le}
 use lib.Ieee.{Float, nan, inf, fin, Format, prec, emax, low, up, down, fits, isNan, hid, ones, top, toBits, lt, neg, toUnsigned, toSigned}
 use lib.Ieee.Exact.{HasValue}
@@ -16,6 +16,7 @@ use lib.Ieee.Nearest.{div-same}
 use Rattle.ieee754.specs.Operations.{isSignMinus}
 use Rattle.ieee754.proofs.Fields.{significand, significand-is, significand-lt, value, infinite, t-lt, e-le}
 use Rattle.ieee754.proofs.Formats.{twice-hid, emax-two}
+use Rattle.ieee754.proofs.Numbers.{pow-swap}
 
 -- what is negative gives 0
 pub of-minus : (w : ℕ) (x : Float) → isSignMinus x ≡ true → 0 ≡ toUnsigned w x
@@ -63,12 +64,12 @@ module _ (f : Format) (x : Float) (F : T (fits f x)) (plain : toBits f x < top f
 
   -- in between x is the significand, moved to its place: with the leading digit at w - 1 it moves down by emax + w - 1 - e
   pub moved : prec f ≤ w → emax f ≤ e → e < emax f + w → emax f + w ≤ ones f → (hid f + t) * 2 ^ (w - prec f) / 2 ^ (emax f + w - 1 - e) ≡ toUnsigned w x
-  moved W lo hi top =
+  moved W lo hi room =
       let q = hid f + t in
       let s = emax f + w - 1 - e in
       let is = significand-is f e t (omega (arith, emax-two f)) in
       let v : HasValue x false (q * 2 ^ (e - 1)) (2 ^ low f) = rw is at (value f x F plain (omega arith)) in
-      let places : 2 ^ (w - prec f) * 2 ^ low f ≡ 2 ^ (e - 1) * 2 ^ s = sym (pow-add 2 (w - prec f) (low f)) ∙ ap (λ (k : ℕ). 2 ^ k) (omega (arith, emax-two f, two f)) ∙ pow-add 2 (e - 1) s in
+      let places = pow-swap (w - prec f) (low f) (e - 1) s (omega (arith, emax-two f, two f)) in
       let same = div-same (q * 2 ^ (w - prec f)) (2 ^ s) (q * 2 ^ (e - 1)) (2 ^ low f) (pow-pos s) (pow-pos (low f)) (omega (arith, ap (λ (k : ℕ). q * k) places)) in
       let few : q < 2 ^ prec f = omega (arith, twice-hid f, t-lt f x F plain) in
       let small : q * 2 ^ (w - prec f) < 2 ^ w = lt-of-lt-of-le (shl-lt (prec f) (w - prec f) few) (pow-mono (omega arith)) in

@@ -1,15 +1,15 @@
 -- The order of the operations of IEEE 754-2019, 9.6, in which -0 comes before +0, by the tests that a program makes, at either width. Assumes nothing.
-use mathlib.Core.Path.{_≡_, refl, sym, ap, _∙_, subst}
-use mathlib.Core.Bool.{Bool, true, false, not, _&&_, _||_, Bool·beq, false≢true}
+use borrow.Author.Tests.{not-false, lt-ltb, le-ltb, leb-true, leb-false}
+use mathlib.Core.Path.{_≡_, refl, sym, _∙_, subst}
+use mathlib.Core.Bool.{Bool, true, false, not, cond, _&&_, _||_, Bool·beq, false≢true}
 use Prim.Native.Nat.{ℕ, _*_}
 use native.Mathlib.Nat.{le-of-eq, le-of-lt, lt-of-lt-of-le}
-use borrow.Author.Tests.{not-false, lt-ltb, le-ltb, leb-true, leb-false}
 use lib.IntN.{ℤ}
 use lib.Dec.{T, leb, ltb, eqb, eqb→eq}
 use lib.Ieee.{Float, nan, inf, fin, Format, fits, up, down, isNan, lt, eq, ne, toBits, top}
 use lib.Ieee.Fits.{and-l}
-use Rattle.ieee754.specs.Operations.{isSignMinus, precedes}
-use Rattle.ieee754.proofs.Fields.{sign-bit}
+use Rattle.ieee754.specs.Operations.{isSignMinus, precedes, minimumNumber, maximumNumber}
+use Rattle.ieee754.proofs.Fields.{nan-test, sign-bit}
 use Rattle.ieee754.proofs.Units.{same-bits}
 
 -- numbers that are equal are one infinity, or two equal fractions
@@ -68,3 +68,13 @@ module _ (x y : Float) (n : ne x y ≡ false) where
   pub zeros-in-order : (f : Format) → T (fits f x) → T (fits f y) → lt x y ≡ false → ltb (toBits f y) (toBits f x) ≡ precedes x y
   unfolding precedes
   zeros-in-order f F G l = let e = equals in simp (l, e) (by-signs f x y F G e (isSignMinus x) (isSignMinus y) refl refl)
+
+-- ---- the choice, by the tests that a program makes
+
+pub minimum-by : (x y : Float) → minimumNumber x y ≡ cond (ne x x) y (cond (ne y y) x (cond (precedes x y) x y))
+unfolding minimumNumber
+minimum-by x y = simp nan-test
+
+pub maximum-by : (x y : Float) → maximumNumber x y ≡ cond (ne x x) y (cond (ne y y) x (cond (precedes x y) y x))
+unfolding maximumNumber
+maximum-by x y = simp nan-test

@@ -1,12 +1,12 @@
 -- A value put together from its digits and its place, in either format: q * 2 ^ k units of the smallest value, with all of the format's digits in use, have the
 -- pattern k * hid + q. The leading digit adds one to the exponent's field, and so does a carry that makes q one digit longer. Assumes nothing.
+use borrow.Author.Tests.{le-ltb}
 use mathlib.Core.Path.{_≡_, sym, ap, _∙_}
 use mathlib.Core.Logic.{inl, inr}
 use mathlib.Core.Bool.{false, not}
-use Prim.Native.Nat.{ℕ, suc, _+_, _-_, _*_, _/_, _%_, _^_, _≤_, _<_}
+use Prim.Native.Nat.{ℕ, suc, _+_, _-_, _*_, _%_, _^_, _≤_, _<_}
 use native.Mathlib.Nat.{le-refl, eq-or-lt-of-le, mod-eq-of-lt, pow-succ'}
 use native.Mathlib.Omega.{arith}
-use borrow.Author.Tests.{le-ltb}
 use lib.Dec.{T}
 use lib.Pow.{pow-pos, shl-shr}
 use lib.Ieee.{Format, prec, emax, low, size, units, hid, ones, top, ofBits, toBits, nanBits}

@@ -1,20 +1,21 @@
 -- The root of a units cut to the digits that a format keeps, which is what `Root.rootOf` rounds; in either format. Assumes nothing.
-use mathlib.Core.Path.{_≡_, refl, sym, ap, _∙_}
-use mathlib.Core.Bool.{Bool, true, false, not, cond}
+use borrow.Author.Tests.{le-leb, lt-leb}
+use mathlib.Core.Path.{_≡_, refl, sym, _∙_}
+use mathlib.Core.Bool.{false, cond}
 use Prim.Native.Nat.{ℕ, zero, suc, _+_, _-_, _*_, _/_, _^_, _≤_, _<_, zero-le, compare}
-use native.Mathlib.Nat.{le-refl, le-trans, le-of-eq, le-of-suc-le-suc, lt-of-lt-of-le, lt-of-le-of-lt, lt-of-not-le, not-le-of-lt, lt-suc-self, mul-le-mul, mul-le-mul-right, mul-pos, div-mul-le-self, div-lt-iff-lt-mul, le-div-iff-mul-le, div-eq-of-lt-le, pow-le-pow-left}
+use native.Mathlib.Nat.{le-trans, le-of-eq, le-of-suc-le-suc, lt-of-lt-of-le, lt-of-le-of-lt, lt-suc-self}
+use native.Mathlib.Nat.{mul-le-mul, mul-le-mul-right, mul-pos, div-mul-le-self, div-lt-iff-lt-mul, le-div-iff-mul-le, div-eq-of-lt-le, pow-le-pow-left}
 use native.Mathlib.Numerals.{add-one}
 use native.Mathlib.Omega.{arith}
-use borrow.Author.Tests.{le-leb, lt-leb}
 use native.Mathlib.Decide.{decLe}
-use lib.Dec.{T, leb, leb→le, nleb→lt, lit≤}
+use lib.Dec.{leb, lit≤}
 use lib.Pow.{pow-add, pow-pos, pow-mono}
-use lib.Ieee.{Format, binary32, binary64, prec, emax, low, size, nearest, units, hid}
+use lib.Ieee.{Format, prec, low, size, nearest, units, hid}
 use lib.Ieee.Digits.{size-lt, size-reaches}
 use lib.Ieee.Fits.{two, kept-lt}
 use Rattle.ieee754.specs.Root.{digit, rootIn, floorRoot, rootOf}
 use Rattle.ieee754.proofs.Formats.{twice-hid, deep}
-use Rattle.ieee754.proofs.Numbers.{sq-lt-back, size-exact, nearest-by}
+use Rattle.ieee754.proofs.Numbers.{sq-lt-back, size-gt, size-exact, nearest-by}
 
 -- ---- s is the square root of n without its fraction
 
@@ -87,7 +88,7 @@ cut-of f a some =
     let P = prec f - 1 in
     let low-le : 2 ^ low f ≤ n = omega (arith, mul-le-mul-right (2 ^ low f) some) in
     let r-ge : 2 ^ P ≤ r = le-of-suc-le-suc (sq-lt-back (omega (arith, floorRoot-is n .1, low-le, pow-mono (deep f), pow-add 2 P P))) in
-    let long : P < size r = lt-of-not-le (λ (g : size r ≤ P). not-le-of-lt (lt-of-lt-of-le (size-lt r) (pow-mono g)) r-ge) in
+    let long = size-gt P r r-ge in
     let whole : q * 2 ^ k ≤ r = div-mul-le-self r (2 ^ k) in
     let next : r < suc q * 2 ^ k = div-lt-iff-lt-mul (pow-pos k) .0 (lt-suc-self q) in
     record {

@@ -1,21 +1,22 @@
 -- What `Root.sqrt` means, with no algorithm in it: of all the values of the format it is the one nearest to the root, and no other is as near. Assumes nothing.
-use mathlib.Core.Path.{_≡_, refl, sym, ap, _∙_, subst}
+use mathlib.Core.Path.{_≡_, sym, ap, _∙_}
 use mathlib.Core.Bool.{true, false, true≢false}
-use Prim.Native.Nat.{ℕ, suc, _+_, _-_, _*_, _/_, _^_, _≤_, _<_, compare}
-use native.Mathlib.Nat.{mul-le-mul, mul-le-mul-right, mul-lt-mul-of-pos-right, lt-of-mul-lt-mul-right, eq-of-mul-eq-mul-right, le-mul-of-pos-right, mul-pos, le-trans, lt-of-lt-of-le, pow-succ', le-of-suc-le-suc, lt-of-not-le, not-le-of-lt}
+use Prim.Native.Nat.{ℕ, suc, _+_, _-_, _*_, _^_, _≤_, _<_, compare}
+use native.Mathlib.Nat.{le-trans, le-of-suc-le-suc, lt-of-lt-of-le, lt-of-not-le, not-le-of-lt, pow-succ'}
+use native.Mathlib.Nat.{mul-pos, mul-le-mul, mul-le-mul-right, mul-lt-mul-of-pos-right, le-mul-of-pos-right, lt-of-mul-lt-mul-right, eq-of-mul-eq-mul-right}
 use native.Mathlib.Decide.{decLe}
 use native.Mathlib.Omega.{arith}
 use lib.IntN.{ℤ}
 use lib.Dec.{T, ltb→lt, lt→ltb}
 use lib.Pow.{pow-add, pow-pos, pow-mono}
-use lib.Ieee.{Float, nan, inf, fin, Format, prec, emax, low, up, down, size, nearest, units, fits, lt, hid, ofBits}
+use lib.Ieee.{Float, nan, inf, fin, Format, prec, emax, low, up, down, units, fits, lt, hid, ofBits}
 use lib.Ieee.Bits.{ofBits-toBits}
 use lib.Ieee.Digits.{back}
 use lib.Ieee.Exact.{HasValue, units-val}
 use lib.Ieee.Fits.{nearest-le}
 use lib.Ieee.Nearest.{nearest-ge}
 use lib.Ieee.Positive.{num, den, positive, den-pos, value→cross, positive-of-value, value-pos}
-use Rattle.ieee754.specs.Root.{floorRoot, rootOf, sqrt, total, RootBelowMiddle, RootAboveMiddle, NearestRoot}
+use Rattle.ieee754.specs.Root.{sqrt, total, RootBelowMiddle, RootAboveMiddle, NearestRoot}
 use Rattle.ieee754.proofs.Formats.{twice-hid, emax-two}
 use Rattle.ieee754.proofs.Numbers.{sq-lt-back, nearest-by}
 use Rattle.ieee754.proofs.Units.{InUnits, amount, in-units, units-fit, same-bits}

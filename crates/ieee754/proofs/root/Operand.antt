@@ -1,10 +1,10 @@
 -- `Root.sqrt` by what a program finds out about its operand. Assumes nothing.
+use borrow.Author.Tests.{ne-eqb}
 use mathlib.Core.Path.{_≡_, refl, sym, ap, _∙_}
 use mathlib.Core.Bool.{Bool, true, false, true≢false, false≢true}
 use Prim.Native.Nat.{ℕ, zero, suc, _*_, _/_, _^_, _<_}
 use native.Mathlib.Nat.{zero-mul, mul-pos, mul-div-cancel, zero-lt-suc}
 use native.Mathlib.Omega.{arith}
-use borrow.Author.Tests.{ne-eqb}
 use lib.IntN.{ℤ, pos}
 use lib.Ieee.{Float, nan, inf, fin, Format, low, up, down, eq}
 use lib.Ieee.Exact.{HasValue}

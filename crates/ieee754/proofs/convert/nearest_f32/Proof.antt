@@ -1,15 +1,14 @@
 -- `ieee754::nearest_f32` meets its contract. Assumes nothing.
 use borrow.Author.Needs.{needs}
-use mathlib.Core.Path.{_≡_, sym, _∙_}
+use mathlib.Core.Path.{_≡_, sym}
 use Prim.Native.Nat.{ℕ, suc, _+_, _-_, _*_, _/_, _%_, _^_, _≤_, _<_, compare}
 use native.Mathlib.Nat.{mod-eq-of-lt}
 use native.Mathlib.Omega.{arith}
-use lib.IntN.{pos}
 use lib.Count.{leadingZeros, leading-top}
 use lib.Dec.{lit≤}
-use lib.Ieee.{binary32, ofBits, ofInt, units, nearest}
+use lib.Ieee.{binary32, ofBits, ofInt, nearest}
 use lib.Ieee.Fits.{nearest-le}
-use lib.Ieee.Nearest.{closest, nearest-ge}
+use lib.Ieee.Nearest.{nearest-ge}
 use Rattle.ieee754.proofs.Numbers.{shifted}
 use Rattle.ieee754.proofs.convert.Rounding.{ofInt-packed}
 use Rattle.ieee754.proofs.convert.nearest_f32.Statement.{statement}
@@ -27,7 +26,7 @@ module _ (c : tie.Else1) where
   lead = leading-top 32 n (omega (arith, c .if1 .left)) (c .before .fits .n .fits)
 
   moved : (2 ^ 31 ≤ n * 2 ^ z) × (n * 2 ^ z < 2 ^ 32)
-  moved = let at : lead .0 + z ≡ 31 = omega (arith, lead .1) in rw at at (shifted (lead .0) n z (lead .2) (lead .3))
+  moved = let p : lead .0 + z ≡ 31 = omega (arith, lead .1) in rw p at (shifted (lead .0) n z (lead .2) (lead .3))
 
   whole : n * 2 ^ z % 2 ^ 32 ≡ n * 2 ^ z
   whole = mod-eq-of-lt (moved .1)

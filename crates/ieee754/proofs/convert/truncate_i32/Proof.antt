@@ -1,10 +1,10 @@
 -- `ieee754::truncate_i32` meets its contract: the whole part of x or of -x, held at an end of the range. Assumes nothing.
 use borrow.Author.Needs.{needs}
-use mathlib.Core.Path.{_≡_, sym, ap, _∙_}
-use Prim.Native.Nat.{ℕ, zero, suc, _-_, _^_, _≤_, _<_, min}
+use mathlib.Core.Path.{_≡_, sym, _∙_}
+use Prim.Native.Nat.{ℕ, zero, suc, _-_, _^_, _<_, min}
 use native.Mathlib.Omega.{arith}
 use lib.Dec.{lit≤, lit<}
-use lib.IntN.{ℤ, pos, negℤ, _-ℤ_, +ℤ-idl}
+use lib.IntN.{pos, negℤ, _-ℤ_, +ℤ-idl}
 use lib.Ieee.{ofBits, toSigned}
 use mir.Syntax.{w32}
 use mir.Val.{SFits, toZ}
@@ -74,13 +74,4 @@ returns-4 c =
 pub truncate-i32-spec : {M : Type 1} → statement M
 truncate-i32-spec =
     tie.close
-    (tie.spec
-    truncate-u64-requires
-    returns
-    cast-result
-    sub-result
-    truncate-u64-requires-2
-    returns-2
-    cast-result-2
-    returns-3
-    returns-4)
+    (tie.spec truncate-u64-requires returns cast-result sub-result truncate-u64-requires-2 returns-2 cast-result-2 returns-3 returns-4)

@@ -1,12 +1,12 @@
 -- `ieee754::truncate_u64` meets its contract. Assumes nothing.
 use borrow.Author.Needs.{needs}
+use borrow.Author.Tests.{le-leb}
 use mathlib.Core.Path.{_≡_, _∙_}
 use mathlib.Core.Bool.{not}
 use Prim.Native.Nat.{_*_, _%_, _^_}
 use native.Mathlib.Omega.{arith}
-use borrow.Author.Tests.{le-leb}
 use lib.Dec.{T, lit≤}
-use lib.Ieee.{binary32, fits, isNan, toBits, toUnsigned}
+use lib.Ieee.{binary32, fits, isNan, toUnsigned}
 use Rattle.ieee754.proofs.Fields.{is-nan, no-nan, sign-bit}
 use Rattle.ieee754.proofs.convert.Whole.{of-minus, below-one, past-width, moved}
 use Rattle.ieee754.proofs.convert.truncate_u64.Statement.{statement}
@@ -64,14 +64,4 @@ returns-5 c =
 pub truncate-u64-spec : {M : Type 1} → statement M
 truncate-u64-spec =
     tie.close
-    (tie.spec
-    returns
-    float-to-bits-bits
-    returns-2
-    returns-3
-    returns-4
-    significand-requires
-    cast-digits
-    cast-result
-    shr-result
-    returns-5)
+    (tie.spec returns float-to-bits-bits returns-2 returns-3 returns-4 significand-requires cast-digits cast-result shr-result returns-5)

@@ -1,6 +1,6 @@
 -- `ieee754::abs` meets its contract. Assumes nothing.
 use lib.Bits.{and-mask}
-use lib.Ieee.{nan, binary32}
+use lib.Ieee.{binary32}
 use Rattle.ieee754.specs.Operations.{abs}
 use Rattle.ieee754.proofs.Fields.{is-nan, no-nan, sign-cleared, cleared-number}
 use Rattle.ieee754.proofs.operations.abs.Statement.{statement}

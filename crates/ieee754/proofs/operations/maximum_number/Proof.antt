@@ -1,28 +1,23 @@
 -- `ieee754::maximum_number` meets its contract. Assumes nothing.
 use borrow.Author.Needs.{needs}
-use Rattle.ieee754.specs.Operations.{maximumNumber}
-use Rattle.ieee754.proofs.Fields.{nan-test}
+use Rattle.ieee754.proofs.operations.Choice.{maximum-by}
 use Rattle.ieee754.proofs.operations.maximum_number.Statement.{statement}
 use Rattle.ieee754.proofs.operations.maximum_number.Tie as tie
 
 returns : tie.Need-returns
-unfolding maximumNumber
-returns c = simp (← nan-test, c .if1 .taken)
+returns c = simp (maximum-by, c .if1 .taken)
 
 returns-2 : tie.Need-returns-2
-unfolding maximumNumber
-returns-2 c = simp (← nan-test, c .before .if1 .left, c .if2 .taken)
+returns-2 c = simp (maximum-by, c .before .if1 .left, c .if2 .taken)
 
 precedes-requires : tie.Need-precedes-requires
 precedes-requires c κs = search needs
 
 returns-3 : tie.Need-returns-3
-unfolding maximumNumber
-returns-3 c = simp (← nan-test, c .before .before .before .if1 .left, c .before .before .if2 .left, ← c .before .precedes .ensures, c .if3 .taken)
+returns-3 c = simp (maximum-by, c .before .before .before .if1 .left, c .before .before .if2 .left, ← c .before .precedes .ensures, c .if3 .taken)
 
 returns-4 : tie.Need-returns-4
-unfolding maximumNumber
-returns-4 c = simp (← nan-test, c .before .before .before .if1 .left, c .before .before .if2 .left, ← c .before .precedes .ensures, c .if3 .left)
+returns-4 c = simp (maximum-by, c .before .before .before .if1 .left, c .before .before .if2 .left, ← c .before .precedes .ensures, c .if3 .left)
 
 pub maximum-number-spec : {M : Type 1} → statement M
 maximum-number-spec = tie.close (tie.spec returns returns-2 precedes-requires returns-3 returns-4)

@@ -1,6 +1,6 @@
 -- `ieee754::precedes` meets its contract. Assumes nothing.
-use lib.Ieee.{binary32, eq, ne}
 use borrow.Author.Tests.{not-true}
+use lib.Ieee.{binary32, eq, ne}
 use Rattle.ieee754.specs.Operations.{precedes}
 use Rattle.ieee754.proofs.operations.Choice.{first-number, second-number, zeros-in-order}
 use Rattle.ieee754.proofs.operations.precedes.Statement.{statement}

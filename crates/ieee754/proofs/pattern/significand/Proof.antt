@@ -1,5 +1,4 @@
 -- `ieee754::significand` meets its contract. Assumes nothing.
-use mathlib.Core.Path.{_∙_}
 use native.Mathlib.Nat.{mod-lt}
 use lib.Bits.{and-mask, or-shifted-r}
 use lib.Pow.{pow-pos}

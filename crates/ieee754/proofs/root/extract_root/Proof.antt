@@ -1,8 +1,8 @@
 -- `ieee754::extract_root` meets its contract. At the loop's head `root` and `rest` are the root and the remainder of n without its last i pairs of digits.
 -- Assumes nothing.
-use mathlib.Core.Path.{_≡_, refl, sym, ap, _∙_}
-use Prim.Native.Nat.{ℕ, suc, _+_, _-_, _*_, _/_, _%_, _^_, _≤_, _<_}
-use native.Mathlib.Nat.{le-trans, le-add-right, le-of-eq, lt-of-le-of-lt, div-one}
+use mathlib.Core.Path.{_≡_, sym, _∙_}
+use Prim.Native.Nat.{ℕ, _+_, _-_, _*_, _/_, _%_, _^_, _≤_, _<_}
+use native.Mathlib.Nat.{div-one}
 use native.Mathlib.Omega.{arith}
 use lib.Pow.{shr-shr, shr-le}
 use lib.Bits.{bitAnd, and-mask}
@@ -98,21 +98,5 @@ returns c =
 pub extract-root-spec : {M : Type 1} → statement M
 extract-root-spec =
     tie.close
-    (tie.spec
-    Inv-loop
-    μ-loop
-    loop-holds
-    sub-i
-    mul-rest
-    mul-rest-2
-    shr-rest
-    add-rest
-    mul-root
-    mul-growth
-    add-growth
-    add-root
-    loop-less
-    loop-again
-    loop-less-2
-    loop-again-2
-    returns)
+    (tie.spec Inv-loop μ-loop loop-holds sub-i mul-rest mul-rest-2 shr-rest add-rest mul-root mul-growth add-growth add-root loop-less loop-again
+    loop-less-2 loop-again-2 returns)

@@ -1,14 +1,14 @@
 -- `ieee754::rounded_root` meets its contract. The radicand has 47 or 48 digits, so its root has 24. Assumes nothing.
 use borrow.Author.Needs.{needs}
 use mathlib.Core.Path.{_≡_, sym, ap, _∙_}
-use Prim.Native.Nat.{ℕ, suc, _+_, _*_, _/_, _%_, _^_, _≤_, _<_}
+use Prim.Native.Nat.{ℕ, _+_, _*_, _/_, _%_, _^_, _≤_, _<_}
 use native.Mathlib.Nat.{mod-eq-of-lt, lt-of-lt-of-le, le-of-suc-le-suc, le-add-right, mul-le-mul}
 use native.Mathlib.Numerals.{add-one}
 use native.Mathlib.Omega.{arith}
 use lib.Dec.{lit≤}
 use lib.Pow.{pow-add, pow-mono, shl-lt}
 use lib.Ieee.{binary32}
-use Rattle.ieee754.proofs.Numbers.{sq-lt-back}
+use Rattle.ieee754.proofs.Numbers.{sq-lt-back, pow-swap}
 use Rattle.ieee754.proofs.root.Cut.{rounds-down, rounds-up}
 use Rattle.ieee754.proofs.root.rounded_root.Statement.{statement}
 use Rattle.ieee754.proofs.root.rounded_root.Tie as tie
@@ -37,9 +37,8 @@ module _ (c : tie.Start) where
   scaled : (a : ℕ) → a * 2 ^ 126 ≡ c .args .digits * 2 ^ w → a * 2 ^ 149 ≡ rad * (2 ^ (w / 2) * 2 ^ (w / 2))
   scaled a e =
       let h = w / 2 in
-      let places : 2 ^ (w + 23) ≡ 2 ^ (23 + w % 2 + (h + h)) = ap (λ (k : ℕ). 2 ^ k) (omega arith) in
-      regroup a (2 ^ 126) (2 ^ 23) (c .args .digits) (2 ^ w) (2 ^ (23 + w % 2)) (2 ^ h * 2 ^ h) e
-      (sym (pow-add 2 w 23) ∙ places ∙ pow-add 2 (23 + w % 2) (h + h) ∙ rw (pow-add 2 h h))
+      let places = pow-swap w 23 (23 + w % 2) (h + h) (omega arith) in
+      regroup a (2 ^ 126) (2 ^ 23) (c .args .digits) (2 ^ w) (2 ^ (23 + w % 2)) (2 ^ h * 2 ^ h) e (rw (pow-add 2 h h) at places)
 
 -- its root
 module _ (c : tie.After-extract-root) where
@@ -80,7 +79,7 @@ packed-requires : tie.Need-packed-requires
 packed-requires c κs = omega (arith, root-lt (c .before), root-ge (c .before), c .before .before .pre .0)
 
 add-packed : tie.Need-add-packed
-add-packed c = search needs
+add-packed c = omega (arith, root-lt (c .before))
 
 cast-packed-2 : tie.Need-cast-packed-2
 cast-packed-2 c = omega (arith, root-lt (c .before))
@@ -103,15 +102,5 @@ returns-2 c a h =
 pub rounded-root-spec : {M : Type 1} → statement M
 rounded-root-spec =
     tie.close
-    (tie.spec
-    add-extract-root
-    cast-extract-root
-    shl-extract-root
-    extract-root-requires
-    cast-packed
-    packed-requires
-    add-packed
-    cast-packed-2
-    packed-requires-2
-    returns
-    returns-2)
+    (tie.spec add-extract-root cast-extract-root shl-extract-root extract-root-requires cast-packed packed-requires add-packed cast-packed-2
+    packed-requires-2 returns returns-2)

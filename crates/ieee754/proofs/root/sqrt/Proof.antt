@@ -1,13 +1,13 @@
 -- `ieee754::sqrt` meets its contract. Assumes nothing.
 use borrow.Author.Needs.{needs}
+use borrow.Author.Tests.{le-leb}
 use mathlib.Core.Path.{_≡_, sym, ap, _∙_}
 use mathlib.Core.Bool.{false, not, true≢false}
 use Prim.Native.Nat.{ℕ, suc, _+_, _-_, _*_, _/_, _%_, _^_, _≤_, _<_}
 use native.Mathlib.Nat.{le-trans, lt-of-not-le, not-le-of-lt, mod-eq-of-lt, mul-assoc, mul-one, mul-pos, pos-of-ne-zero}
 use native.Mathlib.Omega.{arith}
-use borrow.Author.Tests.{le-leb}
 use lib.Count.{leadingZeros, leading-top}
-use lib.Dec.{T, lit≤}
+use lib.Dec.{T}
 use lib.Pow.{pow-add, pow-mono, pow-pos}
 use lib.Ieee.{Float, binary32, fits, isNan, ofBits, toBits, div, eq}
 use lib.Ieee.Bits.{ofBits-toBits}
@@ -84,7 +84,7 @@ module _ (c : tie.Then5) where
   zeros = let l : lead .0 < 23 = lt-of-not-le (λ (g : 23 ≤ lead .0). not-le-of-lt small (le-trans (pow-mono g) (lead .2))) in omega (arith, lead .1)
 
   moved : (2 ^ 23 ≤ b * 2 ^ (z - 8)) × (b * 2 ^ (z - 8) < 2 ^ 24)
-  moved = let at : lead .0 + (z - 8) ≡ 23 = omega (arith, lead .1, zeros) in rw at at (shifted (lead .0) b (z - 8) (lead .2) (lead .3))
+  moved = let p : lead .0 + (z - 8) ≡ 23 = omega (arith, lead .1, zeros) in rw p at (shifted (lead .0) b (z - 8) (lead .2) (lead .3))
 
   whole : b * 2 ^ (z - 8) % 2 ^ 32 ≡ b * 2 ^ (z - 8)
   whole = mod-eq-of-lt (omega (arith, moved))
@@ -138,18 +138,5 @@ returns-6 c =
 pub sqrt-spec : {M : Type 1} → statement M
 sqrt-spec =
     tie.close
-    (tie.spec
-    returns
-    returns-2
-    float-to-bits-bits
-    returns-3
-    returns-4
-    sub-rounded-root
-    sub-rounded-root-2
-    shl-rounded-root
-    rounded-root-requires
-    returns-5
-    add-rounded-root
-    significand-requires
-    rounded-root-requires-2
-    returns-6)
+    (tie.spec returns returns-2 float-to-bits-bits returns-3 returns-4 sub-rounded-root sub-rounded-root-2 shl-rounded-root rounded-root-requires
+    returns-5 add-rounded-root significand-requires rounded-root-requires-2 returns-6)

@@ -1,8 +1,9 @@
 -- Laws of whole numbers: squares, powers of two, binary digits, and the nearer of two neighbours. Assumes nothing.
 use mathlib.Core.Path.{_≡_, sym, ap, _∙_, subst}
 use mathlib.Core.Bool.{not}
-use Prim.Native.Nat.{ℕ, suc, _+_, _*_, _%_, _^_, _≤_, _<_, compare, Ordering, Ordering·lt, Ordering·eq, Ordering·gt}
-use native.Mathlib.Nat.{le-antisymm, lt-of-lt-of-le, lt-of-not-le, not-le-of-lt, mul-le-mul, mul-le-mul-right, mul-lt-mul-of-pos-right}
+use Prim.Native.Nat.{ℕ, suc, _+_, _*_, _/_, _%_, _^_, _≤_, _<_, compare, Ordering, Ordering·lt, Ordering·eq, Ordering·gt}
+use native.Mathlib.Nat.{le-antisymm, le-dest, lt-suc-self, div-lt-iff-lt-mul, lt-of-lt-of-le, lt-of-not-le, not-le-of-lt, mul-le-mul, mul-le-mul-right, mul-lt-mul-of-pos-right}
+use native.Mathlib.Decide.{decLe}
 use native.Mathlib.Omega.{arith}
 use lib.Arith.{lt-of-le-ne}
 use lib.Dec.{T, isLe, isEq, eqb, leb→le, nleb→lt, eqb→eq, eqb-refl}
@@ -12,6 +13,20 @@ use lib.Ieee.Digits.{size-lt, size-le}
 
 pub sq-lt-back : {a b : ℕ} → a * a < b * b → a < b
 sq-lt-back {a} {b} h = lt-of-not-le (λ (g : b ≤ a). not-le-of-lt h (mul-le-mul g g))
+
+-- four times a product is at most the square of the sum
+four-le : (a b : ℕ) → 4 * (a * b) ≤ (a + b) * (a + b)
+four-le a b = elim (decLe a b) [
+  | yes h ↦ let d = le-dest h in rw (← d .1) (omega arith)
+  | no h ↦ let d = le-dest {n = b} {m = a} (omega arith) in rw (← d .1) (omega arith)
+]
+
+-- Heron's rule: the mean of g and of n / g is not below the root of n without its fraction
+pub heron : (n g : ℕ) → 0 < g → let r = (g + n / g) / 2 in n < suc r * suc r
+heron n g some =
+    let q = n / g in
+    let s : g + suc q ≤ 2 * suc ((g + q) / 2) = omega arith in
+    omega (arith, div-lt-iff-lt-mul {k = g} {x = n} {y = suc q} some .0 (lt-suc-self q), four-le g (suc q), mul-le-mul s s)
 
 pub pow-swap : (a b c d : ℕ) → a + b ≡ c + d → 2 ^ a * 2 ^ b ≡ 2 ^ c * 2 ^ d
 pow-swap a b c d e = sym (pow-add 2 a b) ∙ ap (λ (k : ℕ). 2 ^ k) e ∙ pow-add 2 c d

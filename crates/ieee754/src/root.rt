@@ -1,4 +1,4 @@
-// The square root, a binary digit at a time.
+// The square root.
 ghost use mathlib.Core.Path.{_≡_};
 ghost use Prim.Native.Nat.{ℕ, _+_, _*_, _^_, _≤_, _<_};
 ghost use lib.Ieee.{binary32};
@@ -12,28 +12,22 @@ struct Extracted {
     rest: u64,
 }
 
-// The square root of n, a binary digit at a time: each turn takes the next two digits of n.
+// The square root of n by Heron's rule: for any guess above 0 the mean of guess and n / guess is not
+// below the root without its fraction. How near the first guess is matters for speed alone: where n
+// has 47 or 48 digits it is off by less than 3 in 100, and two steps leave at most 2 to take away.
 fn extract_root(n: u64) -> Extracted
     requires { ⌜ n < 2 ^ 48 ⌝ }
     ensures { λ r. ⌜ (r .root * r .root + r .rest ≡ n) × (r .rest ≤ 2 * r .root) ⌝ }
 {
-    let mut root: u64 = 0;
-    let mut rest: u64 = 0;
-    let mut i: u64 = 24;
-    while i > 0 {
-        i = i - 1;
-        rest = rest * 4 + ((n >> (2 * i)) & 3);
-        root = root * 2;
-        // what the square grows by where the next digit is 1
-        let growth: u64 = root * 2 + 1;
-        if growth <= rest {
-            rest = rest - growth;
-            root = root + 1;
-        }
+    let guess: u64 = n / 24445000 + 5757000;
+    let better: u64 = (guess + n / guess) / 2;
+    let mut root: u64 = (better + n / better) / 2;
+    while root * root > n {
+        root = root - 1;
     }
     Extracted {
         root: root,
-        rest: rest,
+        rest: n - root * root,
     }
 }
 

@@ -47,9 +47,9 @@ without-last-byte-requires c κs = search needs
 packed-requires : tie.Need-packed-requires
 packed-requires c κs =
     let m = n (c .before) * 2 ^ z (c .before) in
-    let tie = compare (m % 256 * 2) 256 in
-    let is : c .without-last-byte .result ≡ nearest (m / 256) tie = rw (whole (c .before)) at (c .without-last-byte .ensures) in
-    omega (arith, is, moved (c .before), nearest-ge (m / 256) tie, nearest-le (m / 256) tie)
+    let o = compare (m % 256 * 2) 256 in
+    let is : c .without-last-byte .result ≡ nearest (m / 256) o = rw (whole (c .before)) at (c .without-last-byte .ensures) in
+    omega (arith, is, moved (c .before), nearest-ge (m / 256) o, nearest-le (m / 256) o)
 
 returns-2 : tie.Need-returns-2
 returns-2 c =

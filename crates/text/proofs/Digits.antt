@@ -1,0 +1,78 @@
+-- The digits of a number from the last one on, and how many a decimal number has. Assumes nothing.
+use Prim.Native.Nat.{ℕ, zero, suc, _-_, _/_, _%_, _^_, _≤_, _<_}
+use native.Mathlib.Nat.{pow-zero, pow-suc, pow-succ', div-one, div-div-eq-div-mul, not-suc-le-zero}
+use native.Mathlib.Numerals.{sub-one}
+use native.Mathlib.Omega.{arith}
+use native.Mathlib.Decide.{decLt}
+use mathlib.Core.Path.{_≡_, refl, sym, ap, _∙_}
+use mathlib.Core.Bool.{cond}
+use mathlib.Core.List.{List, [], _∷_, _++_, append-nil}
+use lib.Dec.{ltb}
+use lib.ListN.{length, take, drop, set, length-set, drop-of-length-le}
+use lib.Seq.{length-take-le, append-snoc, take-set-lt, drop-cons, lt-length-set, getD-set-same, drop-set-lt}
+use borrow.Author.Tests.{lt-ltb, le-ltb}
+use Rattle.text.specs.Write.{digit, digits, placesWithin, places}
+
+-- the last digit stands alone, and those before it are the digits of n / base
+pub last-digit : (base k n : ℕ) → digits base (suc k) n ≡ digits base k (n / base) ++ (digit (n % base) ∷ [])
+unfolding digits
+last-digit base zero n = rw (pow-zero, div-one)
+last-digit base (suc k) n =
+    rw (pow-succ' base k, ← div-div-eq-div-mul n base (base ^ k)) (ap (λ (l : List ℕ). digit (n / base / base ^ k % base) ∷ l) (last-digit base k n))
+
+-- a loop that stores k digits of n from the last one on: those before place i are still to be stored, and are the digits of `rest`
+pub record Gathering (base k n : ℕ) (text : List ℕ) (i rest : ℕ) : Type 0 where
+  pub inside : i ≤ k
+  pub room : k ≤ length text
+  pub done : digits base i rest ++ drop i (take k text) ≡ digits base k n
+
+pub begin : (base k n : ℕ) (text : List ℕ) → k ≤ length text → Gathering base k n text k n
+begin base k n text room =
+    let over : length (take k text) ≤ k = omega (arith, length-take-le k text room) in
+    record { inside = omega arith; room = room; done = rw (drop-of-length-le (take k text) {i = k} over, append-nil) }
+
+pub turn : {base k n : ℕ} {text : List ℕ} {i rest : ℕ} → Gathering base k n text i rest → 0 < i
+    → Gathering base k n (set text (i - 1) (digit (rest % base))) (i - 1) (rest / base)
+turn {i = zero} g h = absurd (not-suc-le-zero h)
+turn {base = base} {k = k} {text = text} {i = suc i} {rest = rest} g h =
+    let d = digit (rest % base) in
+    let kept = take k text in
+    let below : i < length kept = omega (arith, length-take-le k text (g .room), g .inside) in
+    let stored : drop i (take k (set text i d)) ≡ d ∷ drop (suc i) kept =
+    rw (take-set-lt k text i d (g .inside), drop-cons (set kept i d) i 0 (lt-length-set kept i d below), getD-set-same kept i d 0 below, drop-set-lt (suc i) kept i d (omega arith)) in
+    rw (sub-one (suc i)) record {
+      inside = omega (arith, g .inside);
+      room = simp length-set (g .room);
+      done = rw (stored, ← append-snoc (digits base i (rest / base)) d (drop (suc i) kept), ← last-digit base i rest) (g .done);
+    }
+
+pub end : {base k n : ℕ} {text : List ℕ} {rest : ℕ} → Gathering base k n text 0 rest → take k text ≡ digits base k n
+unfolding digits
+end g = g .done
+
+-- more divisions than needed count no more places
+enough : (a b n : ℕ) → n ≤ a → n ≤ b → placesWithin a n ≡ placesWithin b n
+unfolding placesWithin
+enough zero zero n h k = refl
+enough zero (suc b) n h k = rw (lt-ltb n 10 (omega arith))
+enough (suc a) zero n h k = rw (lt-ltb n 10 (omega arith))
+enough (suc a) (suc b) n h k = ap (λ (p : ℕ). cond (ltb n 10) 1 (suc p)) (enough a b (n / 10) (omega arith) (omega arith))
+
+pub one-place : (n : ℕ) → n < 10 → places n ≡ 1
+unfolding places placesWithin
+one-place zero h = refl
+one-place (suc n) h = rw (lt-ltb (suc n) 10 h)
+
+pub more-places : (n : ℕ) → 10 ≤ n → places n ≡ suc (places (n / 10))
+unfolding places placesWithin
+more-places zero h = absurd (not-suc-le-zero h)
+more-places (suc n) h = rw (le-ltb (suc n) 10 h) (ap suc (enough n (suc n / 10) (suc n / 10) (omega arith) (omega arith)))
+
+-- a number below 10^(k + 1) has at most k + 1 places
+pub places-most : (k n : ℕ) → n < 10 ^ suc k → places n ≤ suc k
+places-most zero n h = omega (arith, one-place n h)
+places-most (suc k) n h = go (decLt n 10) (places-most k (n / 10) (omega (arith, pow-suc 10 (suc k))))
+  where
+    go : Dec (n < 10) → places (n / 10) ≤ suc k → places n ≤ suc (suc k)
+    go (yes l) p = omega (arith, one-place n l)
+    go (no l) p = omega (arith, more-places n (omega arith))

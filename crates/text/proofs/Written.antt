@@ -1,0 +1,60 @@
+-- Texts written one after the other are one text. Assumes nothing.
+use Prim.Native.Nat.{ℕ, suc, _+_, _-_, _≤_, min}
+use native.Mathlib.Nat.{zero-add, add-zero, add-suc, suc-add}
+use native.Mathlib.Omega.{arith}
+use native.Mathlib.Decide.{decLe}
+use mathlib.Core.Path.{_≡_, refl, sym, ap, _∙_}
+use mathlib.Core.List.{List, [], _∷_, _++_}
+use lib.ListN.{length, drop, set, length-append}
+use lib.Seq.{sets, length-sets, sets-eq, set-out}
+use Rattle.text.specs.Write.{Written}
+
+sets-append : (a b out : List ℕ) (at : ℕ) → sets out at (a ++ b) ≡ sets (sets out at a) (at + length a) b
+sets-append [] b out at = rw add-zero
+sets-append (x ∷ a) b out at = rw (add-suc, ← suc-add) (sets-append a b (set out at x) (suc at))
+
+-- past its end a buffer takes nothing
+sets-past : (text out : List ℕ) (at : ℕ) → length out ≤ at → sets out at text ≡ out
+sets-past [] out at h = refl
+sets-past (x ∷ text) out at h = rw (set-out out at x h) (sets-past text out (suc at) (omega arith))
+
+-- n places on, or where the buffer ends: the same is written
+sets-from : (text out : List ℕ) (at n : ℕ) → sets out (at + min n (length out - at)) text ≡ sets out (at + n) text
+sets-from text out at n = go (decLe (at + n) (length out))
+  where
+    go : Dec (at + n ≤ length out) → sets out (at + min n (length out - at)) text ≡ sets out (at + n) text
+    go (yes h) = let e : at + min n (length out - at) ≡ at + n = omega arith in rw e
+    go (no h) = rw (sets-past text out (at + n) (omega arith), sets-past text out (at + min n (length out - at)) (omega arith))
+
+pub past : (out text : List ℕ) (at : ℕ) → length out ≤ at → Written out at text at out
+past out text at h = record { contents = sym (sets-past text out at h); place = omega arith }
+
+pub nothing : (out : List ℕ) (at : ℕ) → Written out at [] at out
+nothing out at = record { contents = refl; place = omega arith }
+
+pub same-length : {out text out′ : List ℕ} {at end : ℕ} → Written out at text end out′ → length out′ ≡ length out
+same-length {out} {text} {out′} {at} w = ap length (w .contents) ∙ length-sets out at text
+
+pub then : {out out₁ out₂ a b : List ℕ} {at at₁ at₂ : ℕ} → Written out at a at₁ out₁ → Written out₁ at₁ b at₂ out₂ → Written out at (a ++ b) at₂ out₂
+then {out} {out₁} {out₂} {a} {b} {at} v w = record {
+  contents = w .contents ∙ rw (v .contents, v .place, sets-append a b out at, ← length-sets out at a) (sets-from b (sets out at a) at (length a));
+  place = omega (arith, v .place, w .place, same-length v, length-append a b);
+}
+
+-- a text that fits into a buffer from its start on stands there whole, and the rest of the buffer is as it was
+pub whole : {out text out′ : List ℕ} {end : ℕ} → Written out 0 text end out′ → length text ≤ length out → (end ≡ length text) × (out′ ≡ text ++ drop (length text) out)
+whole {out} {text} w fits = (omega (arith, w .place), w .contents ∙ sets-eq text out 0 (omega arith) ∙ rw zero-add)
+
+-- ---- a loop that writes: what is left, written from `at` on, completes the text that was to be written into `out₀` from `at₀` on
+pub record Writing (out₀ : List ℕ) (at₀ : ℕ) (text left : List ℕ) (at : ℕ) (out : List ℕ) : Type 0 where
+  pub long : length out ≡ length out₀
+  pub rest : {end : ℕ} {out′ : List ℕ} → Written out at left end out′ → Written out₀ at₀ text end out′
+
+pub begin : (out : List ℕ) (at : ℕ) (text : List ℕ) → Writing out at text text at out
+begin out at text = record { long = refl; rest = λ w. w }
+
+pub turn : {out₀ text a b out out₁ : List ℕ} {at₀ at at₁ : ℕ} → Writing out₀ at₀ text (a ++ b) at out → Written out at a at₁ out₁ → Writing out₀ at₀ text b at₁ out₁
+turn g v = record { long = same-length v ∙ g .long; rest = λ w. g .rest (then v w) }
+
+pub end : {out₀ text out : List ℕ} {at₀ at : ℕ} → Writing out₀ at₀ text [] at out → Written out₀ at₀ text at out
+end {out = out} {at = at} g = g .rest (nothing out at)

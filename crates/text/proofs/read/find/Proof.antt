@@ -1,0 +1,60 @@
+-- `text::read::find` meets its contract. Assumes nothing.
+use Rattle.text.proofs.Fields.{indexOf-end, indexOf-here, indexOf-step}
+use Rattle.text.specs.Read.{indexOf}
+use lib.ListN.{length, drop}
+use native.Mathlib.Omega.{arith}
+use mathlib.Core.Path.{_≡_}
+use Prim.Native.Nat.{ℕ, _≤_, _<_, _-_, _+_}
+use borrow.Author.Needs.{needs}
+use Rattle.text.proofs.read.find.Statement.{statement}
+use Rattle.text.proofs.read.find.Tie as tie
+
+abbrev Inv-loop : tie.InvT-loop
+Inv-loop s at b i₀ i = at + indexOf b (drop at s) ≡ i + indexOf b (drop i s)
+
+abbrev μ-loop : tie.MeasureT-loop
+μ-loop s at b i₀ i = length s - i
+
+loop-holds : tie.Need-loop-holds Inv-loop μ-loop
+loop-holds c = search needs
+
+shared-slice-read-if1 : tie.Need-shared-slice-read-if1 Inv-loop μ-loop
+shared-slice-read-if1 c = search needs
+
+returns : tie.Need-returns Inv-loop μ-loop
+returns c =
+    let i = c .before .before .before .loop .i in
+    let a = c .before .before .before .before .args in
+    omega (arith, c .before .before .before .loop .inv, indexOf-here (a .s .now) i (a .b) (c .before .before .loop-test .taken) (c .if1 .taken))
+
+add-i : tie.Need-add-i Inv-loop μ-loop
+add-i c = search needs
+
+loop-less : tie.Need-loop-less Inv-loop μ-loop
+loop-less c = search needs
+
+loop-again : tie.Need-loop-again Inv-loop μ-loop
+loop-again c =
+    let i = c .before .before .before .loop .i in
+    let a = c .before .before .before .before .args in
+    omega (arith, c .before .before .before .loop .inv, indexOf-step (a .s .now) i (a .b) (c .before .before .loop-test .taken) (c .if1 .left))
+
+returns-2 : tie.Need-returns-2 Inv-loop μ-loop
+returns-2 c =
+    let i = c .before .loop .i in
+    let a = c .before .before .args in
+    omega (arith, c .before .loop .inv, indexOf-end (a .s .now) i (a .b) (c .loop-test .left))
+
+pub find-spec : {M : Type 1} → statement M
+find-spec =
+    tie.close
+    (tie.spec
+    Inv-loop
+    μ-loop
+    loop-holds
+    shared-slice-read-if1
+    returns
+    add-i
+    loop-less
+    loop-again
+    returns-2)

@@ -1,0 +1,74 @@
+-- `text::read::numeral` meets its contract. Assumes nothing.
+use Prim.Native.Nat.{_-_}
+use native.Mathlib.Omega.{arith}
+use mathlib.Core.Path.{refl}
+use lib.ListN.{length}
+use borrow.Author.Needs.{needs}
+use Rattle.text.proofs.Numeral.{Reading, end, room, no-digit, too-large, turn}
+use Rattle.text.proofs.read.numeral.Statement.{statement}
+use Rattle.text.proofs.read.numeral.Tie as tie
+
+abbrev Inv-loop : tie.InvT-loop
+Inv-loop text base limit n₀ i₀ n i = Reading base limit text n i
+
+abbrev μ-loop : tie.MeasureT-loop
+μ-loop text base limit n₀ i₀ n i = length text - i
+
+loop-holds : tie.Need-loop-holds Inv-loop μ-loop
+loop-holds c = record { within = search needs; left = refl }
+
+shared-slice-read-digit : tie.Need-shared-slice-read-digit Inv-loop μ-loop
+shared-slice-read-digit c = search needs
+
+digit-requires : tie.Need-digit-requires Inv-loop μ-loop
+digit-requires c κs = search needs
+
+returns : tie.Need-returns Inv-loop μ-loop
+returns c =
+    no-digit (c .before .before .before .before .loop .inv) (c .before .before .before .loop-test .taken) (c .before .digit .ensures) (c .if1 .taken)
+
+mul-n : tie.Need-mul-n Inv-loop μ-loop
+mul-n c = omega (arith, room (c .before .before .before .before .loop .inv) (omega arith) (c .before .before .before .before .before .before .pre .1))
+
+add-n : tie.Need-add-n Inv-loop μ-loop
+add-n c = omega (arith, room (c .before .before .before .before .loop .inv) (omega arith) (c .before .before .before .before .before .before .pre .1))
+
+returns-2 : tie.Need-returns-2 Inv-loop μ-loop
+returns-2 c =
+    too-large (c .before .before .before .before .before .loop .inv) (c .before .before .before .before .loop-test .taken) (c .before .before .digit .ensures)
+    (c .before .before .before .before .before .before .before .pre .0) (c .before .if1 .left) (c .if2 .taken)
+
+add-i : tie.Need-add-i Inv-loop μ-loop
+add-i c = search needs
+
+loop-less : tie.Need-loop-less Inv-loop μ-loop
+loop-less c = search needs
+
+loop-again : tie.Need-loop-again Inv-loop μ-loop
+loop-again c =
+    turn (c .before .before .before .before .before .loop .inv) (c .before .before .before .before .loop-test .taken) (c .before .before .digit .ensures) (c .before .if1 .left) (c .if2 .left)
+
+cast-t12 : tie.Need-cast-t12 Inv-loop μ-loop
+cast-t12 c = search needs
+
+returns-3 : tie.Need-returns-3 Inv-loop μ-loop
+returns-3 c = end (c .before .loop .inv) (c .loop-test .left)
+
+pub numeral-spec : {M : Type 1} → statement M
+numeral-spec =
+    tie.close
+    (tie.spec
+    Inv-loop
+    μ-loop
+    loop-holds
+    shared-slice-read-digit
+    digit-requires
+    returns
+    mul-n
+    add-n
+    returns-2
+    add-i
+    loop-less
+    loop-again
+    cast-t12
+    returns-3)

@@ -1,0 +1,60 @@
+-- Fields and numbers read from text. Definitions only.
+use Prim.Native.Nat.{ℕ, suc, _+_, _-_, _*_}
+use Prim.Native.Char.{code}
+use mathlib.Core.Bool.{Bool, true, false, not, cond}
+use mathlib.Core.List.{List, [], _∷_}
+use lib.Dec.{ltb, leb, eqb}
+use lib.ListN.{length, getD}
+use Rattle.text.specs.declared.read.Number.{Number}
+use Rattle.text.specs.declared.read.Number.the-variants.{Value, Invalid}
+
+-- ---- fields
+
+-- the place of the first b, or the length where there is none
+unfoldable pub indexOf : ℕ → List ℕ → ℕ
+indexOf b [] = 0
+indexOf b (x ∷ xs) = cond (eqb x b) 0 (suc (indexOf b xs))
+
+-- x in front of the first of some lists
+unfoldable pub attach : ℕ → List (List ℕ) → List (List ℕ)
+attach x [] = (x ∷ []) ∷ []
+attach x (f ∷ fs) = (x ∷ f) ∷ fs
+
+-- the fields of a line: what stands between its commas, one more than there are commas
+unfoldable pub fields : List ℕ → List (List ℕ)
+fields [] = [] ∷ []
+fields (x ∷ xs) = cond (eqb x (code ",")) ([] ∷ fields xs) (attach x (fields xs))
+
+-- field k of a line, counted from 0
+unfoldable pub field : ℕ → List ℕ → List ℕ
+field k line = getD (fields line) k []
+
+-- ---- numbers
+
+-- what a digit stands for: 0 to 9, and 10 to 15 for a to f; 16 for any other byte
+unfoldable pub digit : ℕ → ℕ
+digit b =
+    cond (ltb b (code "0")) 16
+    (cond (leb b (code "9")) (b - code "0")
+    (cond (ltb b (code "a")) 16
+    (cond (leb b (code "f")) (b - code "a" + 10) 16)))
+
+-- the number that digits in a base stand for, read on from n
+unfoldable pub numeral : ℕ → ℕ → List ℕ → Number
+numeral base n [] = Value n
+numeral base n (d ∷ ds) = cond (ltb (digit d) base) (numeral base (n * base + digit d) ds) Invalid
+
+-- a number, if it is at most `limit`
+unfoldable pub upTo : ℕ → Number → Number
+upTo limit (Value n) = cond (leb n limit) (Value n) Invalid
+upTo limit Invalid = Invalid
+
+-- some digits, and no zero in front of others
+unfoldable pub wellFormed : List ℕ → Bool
+wellFormed [] = false
+wellFormed (d ∷ []) = true
+wellFormed (d ∷ e ∷ ds) = not (eqb d (code "0"))
+
+-- a decimal number from 0 to `limit`
+unfoldable pub decimal : ℕ → List ℕ → Number
+decimal limit text = cond (wellFormed text) (upTo limit (numeral 10 0 text)) Invalid

@@ -1,0 +1,50 @@
+-- Numbers as text, and text put into a buffer. Definitions only.
+use Prim.Native.Nat.{ℕ, zero, suc, _+_, _-_, _/_, _%_, _^_, min}
+use Prim.Native.Char.{code}
+use Prim.Native.String.{String, [] as []ˢ, _∷_ as _∷ˢ_}
+use mathlib.Core.Path.{_≡_}
+use mathlib.Core.Bool.{cond}
+use mathlib.Core.List.{List, [], _∷_}
+use lib.Dec.{ltb}
+use lib.ListN.{length}
+use lib.Seq.{sets}
+
+-- the bytes of an ASCII text
+abbrev pub ascii : String → List ℕ
+ascii []ˢ = []
+ascii (c ∷ˢ s) = code c ∷ ascii s
+
+-- ---- numbers
+
+-- a digit below 16: `0` to `9`, then `a` to `f`
+unfoldable pub digit : ℕ → ℕ
+digit d = cond (ltb d 10) (code "0" + d) (code "a" + (d - 10))
+
+-- the last k digits of n in a base, the most significant first
+unfoldable pub digits : ℕ → ℕ → ℕ → List ℕ
+digits base zero n = []
+digits base (suc k) n = digit (n / base ^ k % base) ∷ digits base k n
+
+-- how many decimal digits n has, counted by at most `steps` divisions
+unfoldable pub placesWithin : ℕ → ℕ → ℕ
+placesWithin zero n = 1
+placesWithin (suc steps) n = cond (ltb n 10) 1 (suc (placesWithin steps (n / 10)))
+
+-- n divisions are always enough
+unfoldable pub places : ℕ → ℕ
+places n = placesWithin n n
+
+-- n in decimal: all its digits, and no zero in front
+unfoldable pub decimal : ℕ → List ℕ
+decimal n = digits 10 (places n) n
+
+-- a pattern of 32 bits: eight hexadecimal digits
+unfoldable pub pattern : ℕ → List ℕ
+pattern n = digits 16 8 n
+
+-- ---- a buffer
+
+-- `out′` is `out` with the bytes of `text` stored from place `at` on, those left out that have no place in it; `end` is the place after the last one stored
+pub record Written (out : List ℕ) (at : ℕ) (text : List ℕ) (end : ℕ) (out′ : List ℕ) : Type 0 where
+  pub contents : out′ ≡ sets out at text
+  pub place : end ≡ at + min (length text) (length out - at)

@@ -1,0 +1,121 @@
+// Fields and numbers read from text.
+ghost use mathlib.Core.Path.{_≡_};
+ghost use Prim.Native.Nat.{_+_, _≤_, _<_};
+ghost use lib.ListN.{length, drop};
+ghost use Rattle.text.specs.Read as Read;
+
+pub enum Number {
+    Value(u32),
+    Invalid,
+}
+
+// The place of the first byte b from `at` on, or the end where there is none.
+fn find(s: &[u8], at: usize, b: u8) -> usize
+    ensures { λ r. ⌜ r ≡ at + Read.indexOf b (drop at (now (s .entry))) ⌝ }
+{
+    let mut i = at;
+    while i < s.len() {
+        if s[i] == b {
+            return i;
+        }
+        i += 1;
+    }
+    i
+}
+
+pub fn field_count(line: &[u8]) -> usize
+    ensures { λ r. ⌜ r ≡ length (Read.fields (now (line .entry))) ⌝ }
+{
+    let mut n = 1;
+    let mut at = 0;
+    loop {
+        let e = find(line, at, b',');
+        if e == line.len() {
+            return n;
+        }
+        at = e + 1;
+        n += 1;
+    }
+}
+
+// Field k of a line, counted from 0; empty where there are fewer.
+pub fn field(line: &[u8], k: usize) -> &[u8]
+    ensures { λ r. ⌜ now r ≡ Read.field k (now (line .entry)) ⌝ }
+{
+    let mut at = 0;
+    let mut j = 0;
+    while j < k {
+        let e = find(line, at, b',');
+        if e == line.len() {
+            return &line[..0];
+        }
+        at = e + 1;
+        j += 1;
+    }
+    let e = find(line, at, b',');
+    &line[at..e]
+}
+
+// What a digit stands for; 16 for a byte that is none.
+fn digit(b: u8) -> u64
+    ensures { λ r. ⌜ r ≡ Read.digit b ⌝ }
+{
+    if b < b'0' {
+        return 16;
+    }
+    if b <= b'9' {
+        return (b - b'0') as u64;
+    }
+    if b < b'a' {
+        return 16;
+    }
+    if b <= b'f' {
+        return (b - b'a' + 10) as u64;
+    }
+    16
+}
+
+// The number that digits in a base stand for, if it is at most `limit`. A number that passes the limit on the way stays above it.
+fn numeral(text: &[u8], base: u64, limit: u32) -> Number
+    requires { ⌜ (0 < base) × (base ≤ 16) ⌝ }
+    ensures { λ r. ⌜ r ≡ Read.upTo limit (Read.numeral base 0 (now (text .entry))) ⌝ }
+{
+    let mut n: u64 = 0;
+    let mut i = 0;
+    while i < text.len() {
+        let d = digit(text[i]);
+        if base <= d {
+            return Number::Invalid;
+        }
+        n = n * base + d;
+        if n > limit as u64 {
+            return Number::Invalid;
+        }
+        i += 1;
+    }
+    Number::Value(n as u32)
+}
+
+// Some digits, and no zero in front of others.
+fn well_formed(text: &[u8]) -> bool
+    ensures { λ r. ⌜ r ≡ Read.wellFormed (now (text .entry)) ⌝ }
+{
+    if text.len() == 0 {
+        return false;
+    }
+    if text.len() == 1 {
+        return true;
+    }
+    text[0] != b'0'
+}
+
+// A decimal number from 0 to `limit`, with no zeros in front.
+pub fn decimal(text: &[u8], limit: u32) -> Number
+    ensures { λ r. ⌜ r ≡ Read.decimal limit (now (text .entry)) ⌝ }
+{
+    if well_formed(text) {
+        numeral(text, 10, limit)
+    } else {
+        Number::Invalid
+    }
+}

@@ -1,17 +1,23 @@
 -- The digits of a number from the last one on, and how many a decimal number has. Assumes nothing.
-use Prim.Native.Nat.{ℕ, zero, suc, _-_, _/_, _%_, _^_, _≤_, _<_}
+use Prim.Native.Nat.{ℕ, zero, suc, _+_, _-_, _/_, _%_, _^_, _≤_, _<_}
 use native.Mathlib.Nat.{pow-zero, pow-suc, pow-succ', div-one, div-div-eq-div-mul, not-suc-le-zero}
 use native.Mathlib.Numerals.{sub-one}
 use native.Mathlib.Omega.{arith}
 use native.Mathlib.Decide.{decLt}
 use mathlib.Core.Path.{_≡_, refl, sym, ap, _∙_}
-use mathlib.Core.Bool.{cond}
+use mathlib.Core.Bool.{Bool, true, false, cond}
 use mathlib.Core.List.{List, [], _∷_, _++_, append-nil}
 use lib.Dec.{ltb}
 use lib.ListN.{length, take, drop, set, length-set, drop-of-length-le}
 use lib.Seq.{length-take-le, append-snoc, take-set-lt, drop-cons, lt-length-set, getD-set-same, drop-set-lt}
-use borrow.Author.Tests.{lt-ltb, le-ltb}
-use Rattle.text.specs.Write.{digit, digits, placesWithin, places}
+use borrow.Author.Tests.{lt-ltb, le-ltb, ne-eqb}
+use Rattle.text.specs.Read.{indexOf}
+use Rattle.text.specs.Write.{digit, digits, placesWithin, places, decimal, pattern}
+
+pub digits-length : (base k n : ℕ) → length (digits base k n) ≡ k
+unfolding digits
+digits-length base zero n = refl
+digits-length base (suc k) n = ap suc (digits-length base k n)
 
 -- the last digit stands alone, and those before it are the digits of n / base
 pub last-digit : (base k n : ℕ) → digits base (suc k) n ≡ digits base k (n / base) ++ (digit (n % base) ∷ [])
@@ -76,3 +82,31 @@ places-most (suc k) n h = go (decLt n 10) (places-most k (n / 10) (omega (arith,
     go : Dec (n < 10) → places (n / 10) ≤ suc k → places n ≤ suc (suc k)
     go (yes l) p = omega (arith, one-place n l)
     go (no l) p = omega (arith, more-places n (omega arith))
+
+pub decimal-length : (k n : ℕ) → n < 10 ^ suc k → length (decimal n) ≤ suc k
+unfolding decimal
+decimal-length k n h = rw (digits-length 10 (places n) n) (places-most k n h)
+
+pub pattern-length : (n : ℕ) → length (pattern n) ≡ 8
+unfolding pattern
+pattern-length n = digits-length 16 8 n
+
+-- a digit is no comma
+digit-least : (d : ℕ) → 48 ≤ digit d
+unfolding digit
+digit-least d = go (ltb d 10)
+  where
+    go : (t : Bool) → 48 ≤ cond t (48 + d) (97 + (d - 10))
+    go true = omega arith
+    go false = omega arith
+
+no-comma : (base k n : ℕ) → indexOf 44 (digits base k n) ≡ length (digits base k n)
+unfolding digits indexOf
+no-comma base zero n = refl
+no-comma base (suc k) n =
+    let d = digit (n / base ^ k % base) in
+    rw (ne-eqb d 44 (λ e. omega (arith, digit-least (n / base ^ k % base)))) (ap suc (no-comma base k n))
+
+pub decimal-no-comma : (n : ℕ) → indexOf 44 (decimal n) ≡ length (decimal n)
+unfolding decimal
+decimal-no-comma n = no-comma 10 (places n) n

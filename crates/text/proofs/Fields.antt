@@ -6,12 +6,12 @@ use native.Mathlib.Omega.{arith}
 use mathlib.Core.Path.{_≡_, refl, sym, ap, _∙_}
 use mathlib.Core.Logic.{⊎-elim}
 use mathlib.Core.Bool.{Bool, true, false, cond}
-use mathlib.Core.List.{List, [], _∷_}
+use mathlib.Core.List.{List, [], _∷_, _++_}
 use lib.Dec.{eqb}
-use lib.ListN.{length, getD, take, drop, drop-of-length-le, length-drop}
-use lib.Seq.{drop-cons, drop-drop, take-all}
-use borrow.Author.Tests.{eq-eqb, ne-eqb}
-use Rattle.text.specs.Read.{indexOf, attach, fields}
+use lib.ListN.{length, getD, take, drop, drop-of-length-le, length-drop, length-append}
+use lib.Seq.{drop-cons, drop-drop, take-all, split-at, take-append-seam, getD-append-seam}
+use borrow.Author.Tests.{eq-eqb, ne-eqb, eqb-true}
+use Rattle.text.specs.Read.{ended, body, indexOf, attach, fields}
 
 module _ (s : List ℕ) (i : ℕ) where
   pub indexOf-end : (b : ℕ) → length s ≤ i → indexOf b (drop i s) ≡ 0
@@ -103,3 +103,76 @@ module _ (s : List ℕ) (at e : ℕ) (found : e ≡ at + indexOf 44 (drop at s))
       (λ l. ap (λ (fs : List (List ℕ)). getD fs 0 []) (fields-to l))
       (λ l. ap (λ (fs : List (List ℕ)). getD fs 0 []) (fields-from l))
       (eq-or-lt-of-le (place-to s at e 44 found h))
+
+-- ---- fields and the line that they stand in
+
+-- some lists with commas between them
+abbrev pub joined : List (List ℕ) → List ℕ
+joined [] = []
+joined (f ∷ []) = f
+joined (f ∷ g ∷ fs) = f ++ (44 ∷ joined (g ∷ fs))
+
+joined-attach : (x : ℕ) (fs : List (List ℕ)) → joined (attach x fs) ≡ x ∷ joined fs
+unfolding attach
+joined-attach x [] = refl
+joined-attach x (f ∷ []) = refl
+joined-attach x (f ∷ g ∷ fs) = refl
+
+some-attach : (x : ℕ) (fs : List (List ℕ)) → 0 < length (attach x fs)
+unfolding attach
+some-attach x [] = omega arith
+some-attach x (f ∷ fs) = omega arith
+
+some-field : (line : List ℕ) → 0 < length (fields line)
+unfolding fields
+some-field [] = omega arith
+some-field (x ∷ xs) = go (eqb x 44)
+  where
+    go : (t : Bool) → 0 < length (cond t ([] ∷ fields xs) (attach x (fields xs)))
+    go true = omega arith
+    go false = some-attach x (fields xs)
+
+joined-comma : (fs : List (List ℕ)) → 0 < length fs → joined ([] ∷ fs) ≡ 44 ∷ joined fs
+joined-comma [] h = absurd (not-suc-le-zero h)
+joined-comma (f ∷ fs) h = refl
+
+-- nothing is lost: the fields with commas between them are the line
+pub joined-fields : (line : List ℕ) → joined (fields line) ≡ line
+unfolding fields
+joined-fields [] = refl
+joined-fields (x ∷ xs) = go (eqb x 44) refl (joined-fields xs)
+  where
+    go : (t : Bool) → eqb x 44 ≡ t → joined (fields xs) ≡ xs → joined (cond t ([] ∷ fields xs) (attach x (fields xs))) ≡ x ∷ xs
+    go true e ih = joined-comma (fields xs) (some-field xs) ∙ rw (eqb-true x 44 e, ih)
+    go false e ih = joined-attach x (fields xs) ∙ rw ih
+
+-- a field with no comma in it, and the fields after it
+pub next-field : (f rest : List ℕ) → indexOf 44 f ≡ length f → fields (f ++ (44 ∷ rest)) ≡ f ∷ fields rest
+unfolding fields indexOf attach
+next-field [] rest h = refl
+next-field (x ∷ f) rest h = go (eqb x 44) (next-field f rest) h
+  where
+    go : (t : Bool) → (indexOf 44 f ≡ length f → fields (f ++ (44 ∷ rest)) ≡ f ∷ fields rest)
+        → cond t 0 (suc (indexOf 44 f)) ≡ suc (length f)
+        → cond t ([] ∷ fields (f ++ (44 ∷ rest))) (attach x (fields (f ++ (44 ∷ rest)))) ≡ (x ∷ f) ∷ fields rest
+    go true ih h = absurd (omega arith)
+    go false ih h = ap (attach x) (ih (omega arith))
+
+-- ---- a line and its end
+
+pub ended-line : (line : List ℕ) → (ended (line ++ (10 ∷ [])) ≡ true) × (body (line ++ (10 ∷ [])) ≡ line)
+unfolding ended body
+ended-line line =
+    let n : length (line ++ (10 ∷ [])) - 1 ≡ length line = omega (arith, length-append line (10 ∷ [])) in
+    rw n (eq-eqb _ 10 (getD-append-seam line 10 [] 0), take-append-seam line (10 ∷ []))
+
+pub line-ended : (text : List ℕ) → ended text ≡ true → text ≡ body text ++ (10 ∷ [])
+unfolding ended body
+line-ended text h = go text h
+  where
+    go : (text : List ℕ) → eqb (getD text (length text - 1) 0) 10 ≡ true → text ≡ take (length text - 1) text ++ (10 ∷ [])
+    go [] h = let z : _≡_ {A = ℕ} 0 1 = cc in absurd (omega arith)
+    go (x ∷ xs) h =
+        let n = length (x ∷ xs) - 1 in
+        let over : length (x ∷ xs) ≤ suc n = omega arith in
+        split-at (x ∷ xs) n 0 (omega arith) ∙ rw (eqb-true (getD (x ∷ xs) n 0) 10 h, drop-of-length-le (x ∷ xs) {i = suc n} over)

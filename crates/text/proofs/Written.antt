@@ -7,7 +7,7 @@ use mathlib.Core.Path.{_≡_, refl, sym, ap, _∙_}
 use mathlib.Core.List.{List, [], _∷_, _++_}
 use lib.ListN.{length, drop, set, length-append}
 use lib.Seq.{sets, length-sets, sets-eq, set-out}
-use Rattle.text.specs.Write.{Written}
+use Rattle.text.specs.Write.{Written, Whole}
 
 sets-append : (a b out : List ℕ) (at : ℕ) → sets out at (a ++ b) ≡ sets (sets out at a) (at + length a) b
 sets-append [] b out at = rw add-zero
@@ -41,9 +41,14 @@ then {out} {out₁} {out₂} {a} {b} {at} v w = record {
   place = omega (arith, v .place, w .place, same-length v, length-append a b);
 }
 
--- a text that fits into a buffer from its start on stands there whole, and the rest of the buffer is as it was
-pub whole : {out text out′ : List ℕ} {end : ℕ} → Written out 0 text end out′ → length text ≤ length out → (end ≡ length text) × (out′ ≡ text ++ drop (length text) out)
-whole {out} {text} w fits = (omega (arith, w .place), w .contents ∙ sets-eq text out 0 (omega arith) ∙ rw zero-add)
+-- a text that fits into a buffer from its start on stands there whole, and its end lies in the buffer
+pub whole : {out text out′ : List ℕ} {end : ℕ} → Written out 0 text end out′ → length text ≤ length out → Whole out text end out′
+whole {out} {text} {out′} {end} w fits =
+    let stop : end ≡ length text = omega (arith, w .place) in
+    record { contents = w .contents ∙ sets-eq text out 0 (omega arith) ∙ rw (zero-add, stop); place = stop }
+
+pub end-inside : {out text out′ : List ℕ} {end : ℕ} → Whole out text end out′ → end ≤ length out′
+end-inside w = rw (w .contents) (simp length-append (omega (arith, w .place)))
 
 -- ---- a loop that writes: what is left, written from `at` on, completes the text that was to be written into `out₀` from `at₀` on
 pub record Writing (out₀ : List ℕ) (at₀ : ℕ) (text left : List ℕ) (at : ℕ) (out : List ℕ) : Type 0 where

@@ -4,9 +4,19 @@ use Prim.Native.Char.{code}
 use mathlib.Core.Bool.{Bool, true, false, not, cond}
 use mathlib.Core.List.{List, [], _∷_}
 use lib.Dec.{ltb, leb, eqb}
-use lib.ListN.{length, getD}
+use lib.ListN.{length, getD, take}
 use Rattle.text.specs.declared.read.Number.{Number}
 use Rattle.text.specs.declared.read.Number.the-variants.{Value, Invalid}
+
+-- ---- lines
+
+-- a text whose last byte is a line end
+unfoldable pub ended : List ℕ → Bool
+ended text = eqb (getD text (length text - 1) 0) (code "\n")
+
+-- a text without its last byte
+unfoldable pub body : List ℕ → List ℕ
+body text = take (length text - 1) text
 
 -- ---- fields
 
@@ -58,3 +68,7 @@ wellFormed (d ∷ e ∷ ds) = not (eqb d (code "0"))
 -- a decimal number from 0 to `limit`
 unfoldable pub decimal : ℕ → List ℕ → Number
 decimal limit text = cond (wellFormed text) (upTo limit (numeral 10 0 text)) Invalid
+
+-- a pattern of 32 bits: eight hexadecimal digits
+unfoldable pub pattern : List ℕ → Number
+pattern text = cond (eqb (length text) 8) (numeral 16 0 text) Invalid

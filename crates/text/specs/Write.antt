@@ -4,9 +4,9 @@ use Prim.Native.Char.{code}
 use Prim.Native.String.{String, [] as []ˢ, _∷_ as _∷ˢ_}
 use mathlib.Core.Path.{_≡_}
 use mathlib.Core.Bool.{cond}
-use mathlib.Core.List.{List, [], _∷_}
+use mathlib.Core.List.{List, [], _∷_, _++_}
 use lib.Dec.{ltb}
-use lib.ListN.{length}
+use lib.ListN.{length, drop}
 use lib.Seq.{sets}
 
 -- the bytes of an ASCII text
@@ -48,3 +48,8 @@ pattern n = digits 16 8 n
 pub record Written (out : List ℕ) (at : ℕ) (text : List ℕ) (end : ℕ) (out′ : List ℕ) : Type 0 where
   pub contents : out′ ≡ sets out at text
   pub place : end ≡ at + min (length text) (length out - at)
+
+-- `out′` is `text`, then what `out` holds from the end of `text` on
+pub record Whole (out text : List ℕ) (end : ℕ) (out′ : List ℕ) : Type 0 where
+  pub contents : out′ ≡ text ++ drop end out
+  pub place : end ≡ length text

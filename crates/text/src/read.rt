@@ -9,6 +9,28 @@ pub enum Number {
     Invalid,
 }
 
+// Does a text end in a line end?
+pub fn ended(text: &[u8]) -> bool
+    ensures { λ r. ⌜ r ≡ Read.ended (now (text .entry)) ⌝ }
+{
+    let n = text.len();
+    if n == 0 {
+        return false;
+    }
+    text[n - 1] == b'\n'
+}
+
+// A text without its last byte.
+pub fn body(text: &[u8]) -> &[u8]
+    ensures { λ r. ⌜ now r ≡ Read.body (now (text .entry)) ⌝ }
+{
+    let n = text.len();
+    if n == 0 {
+        return text;
+    }
+    &text[..n - 1]
+}
+
 // The place of the first byte b from `at` on, or the end where there is none.
 fn find(s: &[u8], at: usize, b: u8) -> usize
     ensures { λ r. ⌜ r ≡ at + Read.indexOf b (drop at (now (s .entry))) ⌝ }

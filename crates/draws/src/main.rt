@@ -1,0 +1,13 @@
+// Reads `state,count` and a line end from standard input, and prints that many draws of the noise generator from that state.
+// 17 bytes of the input are enough: an accepted input has at most 16, and a longer one gets the answer of its first 17 bytes
+// (`first-bytes` in the proofs of `listing`).
+use libc::STDIN_FILENO;
+use libc::STDOUT_FILENO;
+
+fn main() {
+    let mut input = [0u8; 17];
+    let n = io::read_full(STDIN_FILENO, &mut input);
+    let mut output = [0u8; 25015];
+    let length = listing::draws(&input[..n], &mut output);
+    io::write_all(STDOUT_FILENO, &output[..length]);
+}

@@ -1,0 +1,41 @@
+-- The longest text that `draws` prints. Assumes nothing.
+use Prim.Native.Nat.{ℕ, zero, suc, _+_, _*_, _%_, _^_, _≤_, _<_}
+use native.Mathlib.Nat.{mod-lt}
+use native.Mathlib.Omega.{arith}
+use mathlib.Core.Path.{_≡_, refl}
+use mathlib.Core.List.{List}
+use lib.ListN.{length, length-append}
+use lib.Ieee.{binary32, toBits}
+use Rattle.random.specs.Random.{getWord, getFloat}
+use Rattle.text.proofs.Digits.{decimal-length, pattern-length}
+use Rattle.listing.specs.Draws.{readRequest, row, rows, answer, text}
+use Rattle.listing.specs.Refused as Refusal
+use Rattle.listing.specs.declared.Request.{Request}
+use Rattle.listing.specs.declared.Request.the-variants.{Draws, Refused}
+use Rattle.listing.proofs.Requests.{asked-read}
+
+word-below : (state : ℕ) → getFloat state .word < 2 ^ 32
+unfolding getFloat getWord
+word-below state = mod-lt (state * 1664525 + 1013904223) (omega arith)
+
+row-length : (n state : ℕ) → n < 10000 → length (row n (getFloat state)) ≤ 25
+unfolding row
+row-length n state h =
+    simp length-append
+    (omega (arith, decimal-length 3 n h, decimal-length 9 (getFloat state .word) (omega (arith, word-below state)), pattern-length (toBits binary32 (getFloat state .value))))
+
+rows-length : (n state count : ℕ) → n + count ≤ 10000 → length (rows n state count) ≤ 25 * count
+unfolding rows
+rows-length n state zero h = omega arith
+rows-length n state (suc count) h =
+    simp length-append (omega (arith, row-length n state (omega arith), rows-length (suc n) (getFloat state .word) count (omega arith)))
+
+pub text-length : (input : List ℕ) → length (text input) ≤ 25015
+unfolding text answer Refusal.text
+text-length input = go (readRequest input) refl
+  where
+    go : (q : Request) → readRequest input ≡ q → length (answer q) ≤ 25015
+    go (Draws state count) e =
+        let most = asked-read input state count e .most in
+        simp length-append (omega (arith, rows-length 1 state count (omega arith)))
+    go Refused e = simp length-append (omega (arith, decimal-length 0 8 (omega arith), decimal-length 0 1 (omega arith)))

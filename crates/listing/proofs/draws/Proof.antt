@@ -1,0 +1,27 @@
+-- `listing::draws` meets its contract: the text fits into the buffer. Assumes nothing.
+use Prim.Native.Nat.{_≤_}
+use native.Mathlib.Omega.{arith}
+use lib.ListN.{length}
+use Rattle.text.proofs.Written.{whole}
+use Rattle.listing.specs.Draws.{text}
+use Rattle.listing.proofs.Lengths.{text-length}
+use borrow.Author.Needs.{needs}
+use Rattle.listing.proofs.draws.Statement.{statement}
+use Rattle.listing.proofs.draws.Tie as tie
+
+read-request-requires : tie.Need-read-request-requires
+read-request-requires c κs = search needs
+
+put-answer-requires : tie.Need-put-answer-requires
+put-answer-requires c κs = search needs
+
+returns : tie.Need-returns
+unfolding text
+returns c =
+    let s = c .before .before .before .before in
+    let w = rw (c .before .read-request .ensures) at (c .put-answer .ensures) in
+    let fits : length (text (s .args .input .now)) ≤ length (s .args .out .now) = omega (arith, text-length (s .args .input .now)) in
+    whole w fits
+
+pub draws-spec : {M : Type 1} → statement M
+draws-spec = tie.close (tie.spec read-request-requires put-answer-requires returns)

@@ -1,0 +1,24 @@
+-- `listing::put_pattern` meets its contract. Assumes nothing.
+use Rattle.text.proofs.Written.{then}
+use borrow.Author.Needs.{needs}
+use Rattle.listing.proofs.put_pattern.Statement.{statement}
+use Rattle.listing.proofs.put_pattern.Tie as tie
+
+pattern-of-requires : tie.Need-pattern-of-requires
+pattern-of-requires c κs = search needs
+
+pattern-requires : tie.Need-pattern-requires
+pattern-requires c κs = search needs
+
+byte-requires : tie.Need-byte-requires
+byte-requires c κs = search needs
+
+same-length : tie.Need-same-length
+same-length c = search needs
+
+returns : tie.Need-returns
+returns c = then (rw (c .before .before .before .before .before .before .before .pattern-of .ensures) at (c .before .before .before .before .before .before .pattern .ensures)) (c .before .before .byte .ensures)
+
+pub put-pattern-spec : {M : Type 1} → statement M
+put-pattern-spec =
+    tie.close (tie.spec pattern-of-requires pattern-requires byte-requires same-length returns)

@@ -1,0 +1,122 @@
+// The texts that the programs print.
+use random::Draw;
+use refusal::Refusal;
+use text::read::Number;
+ghost use mathlib.Core.Path.{_≡_};
+ghost use mathlib.Core.List.{[], _∷_, _++_};
+ghost use lib.Ieee.{binary32, toBits};
+ghost use Rattle.text.specs.Write as Write;
+ghost use Rattle.text.specs.Write.{Written, Whole};
+ghost use Rattle.listing.specs.Draws as Draws;
+ghost use Rattle.listing.specs.Refused as Refused;
+
+// The pattern of x, and 7fc00000 for every not-a-number.
+fn pattern_of(x: f32) -> u32
+    ensures { λ r. ⌜ r ≡ toBits binary32 x ⌝ }
+{
+    if x != x {
+        return 0x7fc0_0000;
+    }
+    f32::to_bits(x)
+}
+
+// A number and the byte after it.
+fn put_number(out: &mut [u8], at: usize, n: u64, after: u8) -> usize
+    ensures { λ r. ⌜ Written (now (out .entry)) at (Write.decimal n ++ after ∷ []) r (now (out .exit)) ⌝ }
+{
+    let end = text::write::decimal(out, at, n);
+    text::write::byte(out, end, after)
+}
+
+// The pattern of a float and the byte after it.
+fn put_pattern(out: &mut [u8], at: usize, x: f32, after: u8) -> usize
+    ensures { λ r. ⌜ Written (now (out .entry)) at (Write.pattern (toBits binary32 x) ++ after ∷ []) r (now (out .exit)) ⌝ }
+{
+    let end = text::write::pattern(out, at, pattern_of(x));
+    text::write::byte(out, end, after)
+}
+
+// The line that a refused input gets, alone.
+fn put_refused(out: &mut [u8], refusal: Refusal, line: u64) -> usize
+    ensures { λ r. ⌜ Written (now (out .entry)) 0 (Refused.text refusal line) r (now (out .exit)) ⌝ }
+{
+    let start = text::write::bytes(out, 0, b"refused,");
+    let end = put_number(out, start, refusal.number() as u64, b',');
+    put_number(out, end, line, b'\n')
+}
+
+// What the input of `draws` asks for.
+pub enum Request {
+    Draws { state: u32, count: u32 },
+    Refused,
+}
+
+fn read_numbers(state: &[u8], count: &[u8]) -> Request
+    ensures { λ r. ⌜ r ≡ Draws.readNumbers (now (state .entry)) (now (count .entry)) ⌝ }
+{
+    let Number::Value(s) = text::read::decimal(state, 0xffff_ffff) else {
+        return Request::Refused;
+    };
+    let Number::Value(n) = text::read::decimal(count, 1000) else {
+        return Request::Refused;
+    };
+    Request::Draws { state: s, count: n }
+}
+
+fn read_request(input: &[u8]) -> Request
+    ensures { λ r. ⌜ r ≡ Draws.readRequest (now (input .entry)) ⌝ }
+{
+    if !text::read::ended(input) {
+        return Request::Refused;
+    }
+    let line = text::read::body(input);
+    if text::read::field_count(line) != 2 {
+        return Request::Refused;
+    }
+    read_numbers(text::read::field(line, 0), text::read::field(line, 1))
+}
+
+fn put_row(out: &mut [u8], at: usize, number: u32, draw: Draw) -> usize
+    ensures { λ r. ⌜ Written (now (out .entry)) at (Draws.row number draw) r (now (out .exit)) ⌝ }
+{
+    let word = draw.word;
+    let value = draw.value;
+    let first = put_number(out, at, number as u64, b',');
+    let second = put_number(out, first, word as u64, b',');
+    put_pattern(out, second, value, b'\n')
+}
+
+fn put_rows(out: &mut [u8], at: usize, state: u32, count: u32) -> usize
+    ensures { λ r. ⌜ Written (now (out .entry)) at (Draws.rows 1 state count) r (now (out .exit)) ⌝ }
+{
+    let mut end = at;
+    let mut word = state;
+    let mut drawn: u32 = 0;
+    while drawn < count {
+        let draw = random::get_float(word);
+        drawn += 1;
+        end = put_row(out, end, drawn, draw);
+        word = draw.word;
+    }
+    end
+}
+
+fn put_answer(out: &mut [u8], request: Request) -> usize
+    ensures { λ r. ⌜ Written (now (out .entry)) 0 (Draws.answer request) r (now (out .exit)) ⌝ }
+{
+    match request {
+        Request::Draws { state, count } => {
+            let end = text::write::bytes(out, 0, b"draw,word,bits\n");
+            put_rows(out, end, state, count)
+        }
+        Request::Refused => put_refused(out, Refusal::CueLine, 1),
+    }
+}
+
+// What the program `draws` prints for its input, at the start of `out`. The header has 15 bytes and each of at most 1000 rows
+// at most 25: 4 + 1 + 10 + 1 + 8 + 1.
+pub fn draws(input: &[u8], out: &mut [u8; 25015]) -> usize
+    ensures { λ r. ⌜ Whole (now (out .entry)) (Draws.text (now (input .entry))) r (now (out .exit)) ⌝ }
+{
+    put_answer(out, read_request(input))
+}

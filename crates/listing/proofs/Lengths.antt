@@ -1,5 +1,5 @@
 -- The longest text that `draws` prints. Assumes nothing.
-use Prim.Native.Nat.{ℕ, zero, suc, _+_, _*_, _%_, _^_, _≤_, _<_}
+use Prim.Native.Nat.{ℕ, zero, suc, _+_, _*_, _^_, _≤_, _<_}
 use native.Mathlib.Nat.{mod-lt}
 use native.Mathlib.Omega.{arith}
 use mathlib.Core.Path.{_≡_, refl}
@@ -7,7 +7,8 @@ use mathlib.Core.List.{List}
 use lib.ListN.{length, length-append}
 use lib.Ieee.{binary32, toBits}
 use Rattle.random.specs.Random.{getWord, getFloat}
-use Rattle.text.proofs.Digits.{decimal-length, pattern-length}
+use Rattle.text.proofs.Digits.{pattern-length}
+use Rattle.text.proofs.Places.{decimal-length}
 use Rattle.listing.specs.Draws.{readRequest, row, rows, answer, text}
 use Rattle.listing.specs.Refused as Refusal
 use Rattle.listing.specs.declared.Request.{Request}

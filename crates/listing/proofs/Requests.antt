@@ -1,19 +1,20 @@
 -- The request that an input of `draws` makes: an input is accepted exactly where it is the text of a state and a count, so one of more than 16 bytes is refused.
 -- Assumes nothing.
-use Prim.Native.Nat.{ℕ, suc, _+_, _^_, _≤_, _<_}
+use Prim.Native.Nat.{ℕ, _≤_, _<_}
 use native.Mathlib.Omega.{arith}
 use native.Mathlib.Decide.{decLe}
 use mathlib.Core.Path.{_≡_, refl, sym, ap, _∙_}
 use mathlib.Core.Bool.{Bool, true, false, cond}
-use mathlib.Core.List.{List, [], _∷_, _++_, append-assoc}
+use mathlib.Core.List.{List, [], _∷_, _++_}
 use lib.ListN.{length, getD, take, length-append}
 use lib.Seq.{take-all, length-take-le, append-snoc}
 use Rattle.text.specs.Read as Read
 use Rattle.text.specs.Write as Write
 use Rattle.text.specs.declared.read.Number.{Number}
 use Rattle.text.specs.declared.read.Number.the-variants.{Value, Invalid}
-use Rattle.text.proofs.Digits.{decimal-length, decimal-no-comma}
-use Rattle.text.proofs.Fields.{joined, joined-fields, next-field, fields-last, ended-line, line-ended}
+use Rattle.text.proofs.Places.{decimal-length, decimal-no-comma}
+use Rattle.text.proofs.Fields.{only-field, next-field, joined, joined-fields}
+use Rattle.text.proofs.Lines.{ended-line, line-ended}
 use Rattle.text.proofs.RoundTrip.{decimal-back, decimal-read}
 use Rattle.listing.specs.Draws.{onNumber, readNumbers, fromFields, readRequest, AsksFor, answer, text}
 use Rattle.listing.specs.declared.Request.{Request}
@@ -46,12 +47,15 @@ read-asked {input} {state} {count} a =
       ended-line line .1,
       append-snoc s 44 c,
       next-field s c (decimal-no-comma state),
-      fields-last c (omega (arith, decimal-no-comma count)),
+      only-field c (omega (arith, decimal-no-comma count)),
       decimal-back 4294967295 state (omega (arith, a .below)),
       decimal-back 1000 count (a .most),
     )
 
 -- ---- and no other input does
+not-draws : {C : Type 0} {state count : ℕ} → Refused ≡ Draws state count → C
+not-draws h = let z : _≡_ {A = ℕ} 0 1 = cc in absurd (omega arith)
+
 numbers-asked : (line f g : List ℕ) (state count : ℕ) → line ≡ f ++ (44 ∷ g) → readNumbers f g ≡ Draws state count → AsksFor (line ++ (10 ∷ [])) state count
 unfolding readNumbers onNumber
 numbers-asked line f g state count e h = go (Read.decimal 4294967295 f) (Read.decimal 1000 g) refl refl h
@@ -68,16 +72,16 @@ numbers-asked line f g state count e h = go (Read.decimal 4294967295 f) (Read.de
           below = omega (arith, x .1);
           most = y .1;
         }
-    go (Value s) Invalid ex ey h = let z : _≡_ {A = ℕ} 0 1 = cc in absurd (omega arith)
-    go Invalid y ex ey h = let z : _≡_ {A = ℕ} 0 1 = cc in absurd (omega arith)
+    go (Value s) Invalid ex ey h = not-draws h
+    go Invalid y ex ey h = not-draws h
 
 fields-asked : (line : List ℕ) (fs : List (List ℕ)) (state count : ℕ) → Read.fields line ≡ fs → fromFields fs ≡ Draws state count
     → AsksFor (line ++ (10 ∷ [])) state count
 unfolding fromFields
-fields-asked line [] state count e h = let z : _≡_ {A = ℕ} 0 1 = cc in absurd (omega arith)
-fields-asked line (f ∷ []) state count e h = let z : _≡_ {A = ℕ} 0 1 = cc in absurd (omega arith)
+fields-asked line [] state count e h = not-draws h
+fields-asked line (f ∷ []) state count e h = not-draws h
 fields-asked line (f ∷ g ∷ []) state count e h = numbers-asked line f g state count (sym (joined-fields line) ∙ ap joined e) h
-fields-asked line (f ∷ g ∷ k ∷ fs) state count e h = let z : _≡_ {A = ℕ} 0 1 = cc in absurd (omega arith)
+fields-asked line (f ∷ g ∷ k ∷ fs) state count e h = not-draws h
 
 pub asked-read : (input : List ℕ) (state count : ℕ) → readRequest input ≡ Draws state count → AsksFor input state count
 unfolding readRequest
@@ -85,11 +89,14 @@ asked-read input state count h = go (Read.ended input) refl h
   where
     go : (t : Bool) → Read.ended input ≡ t → cond t (fromFields (Read.fields (Read.body input))) Refused ≡ Draws state count → AsksFor input state count
     go true e h = rw (line-ended input e) (fields-asked (Read.body input) (Read.fields (Read.body input)) state count refl h)
-    go false e h = let z : _≡_ {A = ℕ} 0 1 = cc in absurd (omega arith)
+    go false e h = not-draws h
 
 -- ---- so a longer input is refused, and the first 17 bytes of an input tell as much as all of it
 asked-length : {input : List ℕ} {state count : ℕ} → AsksFor input state count → length input ≤ 16
-asked-length {input} {state} {count} a = rw (a .line) (simp length-append (omega (arith, decimal-length 9 state (omega (arith, a .below)), decimal-length 3 count (omega (arith, a .most)))))
+asked-length {input} {state} {count} a =
+    let ten = decimal-length 9 state (omega (arith, a .below)) in
+    let four = decimal-length 3 count (omega (arith, a .most)) in
+    rw (a .line) (simp length-append (omega arith))
 
 long-refused : (input : List ℕ) → 16 < length input → readRequest input ≡ Refused
 long-refused input h = go (readRequest input) refl

@@ -94,9 +94,9 @@ fn put_rows(out: &mut [u8], at: usize, state: u32, count: u32) -> usize
     let mut drawn: u32 = 0;
     while drawn < count {
         let draw = random::get_float(word);
-        drawn += 1;
-        end = put_row(out, end, drawn, draw);
+        end = put_row(out, end, drawn + 1, draw);
         word = draw.word;
+        drawn += 1;
     }
     end
 }

@@ -1,23 +1,26 @@
--- The digits of a number from the last one on, and how many a decimal number has. Assumes nothing.
+-- The digits of a number: how many there are, and a loop that stores them from the last one on. Assumes nothing.
 use Prim.Native.Nat.{ℕ, zero, suc, _+_, _-_, _/_, _%_, _^_, _≤_, _<_}
-use native.Mathlib.Nat.{pow-zero, pow-suc, pow-succ', div-one, div-div-eq-div-mul, not-suc-le-zero}
+use native.Mathlib.Nat.{pow-zero, pow-succ', div-one, div-div-eq-div-mul, not-suc-le-zero}
 use native.Mathlib.Numerals.{sub-one}
 use native.Mathlib.Omega.{arith}
-use native.Mathlib.Decide.{decLt}
-use mathlib.Core.Path.{_≡_, refl, sym, ap, _∙_}
+use mathlib.Core.Path.{_≡_, refl, ap}
 use mathlib.Core.Bool.{Bool, true, false, cond}
 use mathlib.Core.List.{List, [], _∷_, _++_, append-nil}
 use lib.Dec.{ltb}
 use lib.ListN.{length, take, drop, set, length-set, drop-of-length-le}
 use lib.Seq.{length-take-le, append-snoc, take-set-lt, drop-cons, lt-length-set, getD-set-same, drop-set-lt}
-use borrow.Author.Tests.{lt-ltb, le-ltb, ne-eqb}
+use borrow.Author.Tests.{ne-eqb}
 use Rattle.text.specs.Read.{indexOf}
-use Rattle.text.specs.Write.{digit, digits, placesWithin, places, decimal, pattern}
+use Rattle.text.specs.Write.{digit, digits, pattern}
 
 pub digits-length : (base k n : ℕ) → length (digits base k n) ≡ k
 unfolding digits
 digits-length base zero n = refl
 digits-length base (suc k) n = ap suc (digits-length base k n)
+
+pub pattern-length : (n : ℕ) → length (pattern n) ≡ 8
+unfolding pattern
+pattern-length n = digits-length 16 8 n
 
 -- the last digit stands alone, and those before it are the digits of n / base
 pub last-digit : (base k n : ℕ) → digits base (suc k) n ≡ digits base k (n / base) ++ (digit (n % base) ∷ [])
@@ -44,8 +47,9 @@ turn {base = base} {k = k} {text = text} {i = suc i} {rest = rest} g h =
     let d = digit (rest % base) in
     let kept = take k text in
     let below : i < length kept = omega (arith, length-take-le k text (g .room), g .inside) in
+    let from-i = drop-cons (set kept i d) i 0 (lt-length-set kept i d below) in
     let stored : drop i (take k (set text i d)) ≡ d ∷ drop (suc i) kept =
-    rw (take-set-lt k text i d (g .inside), drop-cons (set kept i d) i 0 (lt-length-set kept i d below), getD-set-same kept i d 0 below, drop-set-lt (suc i) kept i d (omega arith)) in
+    rw (take-set-lt k text i d (g .inside), from-i, getD-set-same kept i d 0 below, drop-set-lt (suc i) kept i d (omega arith)) in
     rw (sub-one (suc i)) record {
       inside = omega (arith, g .inside);
       room = simp length-set (g .room);
@@ -56,41 +60,6 @@ pub end : {base k n : ℕ} {text : List ℕ} {rest : ℕ} → Gathering base k n
 unfolding digits
 end g = g .done
 
--- more divisions than needed count no more places
-enough : (a b n : ℕ) → n ≤ a → n ≤ b → placesWithin a n ≡ placesWithin b n
-unfolding placesWithin
-enough zero zero n h k = refl
-enough zero (suc b) n h k = rw (lt-ltb n 10 (omega arith))
-enough (suc a) zero n h k = rw (lt-ltb n 10 (omega arith))
-enough (suc a) (suc b) n h k = ap (λ (p : ℕ). cond (ltb n 10) 1 (suc p)) (enough a b (n / 10) (omega arith) (omega arith))
-
-pub one-place : (n : ℕ) → n < 10 → places n ≡ 1
-unfolding places placesWithin
-one-place zero h = refl
-one-place (suc n) h = rw (lt-ltb (suc n) 10 h)
-
-pub more-places : (n : ℕ) → 10 ≤ n → places n ≡ suc (places (n / 10))
-unfolding places placesWithin
-more-places zero h = absurd (not-suc-le-zero h)
-more-places (suc n) h = rw (le-ltb (suc n) 10 h) (ap suc (enough n (suc n / 10) (suc n / 10) (omega arith) (omega arith)))
-
--- a number below 10^(k + 1) has at most k + 1 places
-pub places-most : (k n : ℕ) → n < 10 ^ suc k → places n ≤ suc k
-places-most zero n h = omega (arith, one-place n h)
-places-most (suc k) n h = go (decLt n 10) (places-most k (n / 10) (omega (arith, pow-suc 10 (suc k))))
-  where
-    go : Dec (n < 10) → places (n / 10) ≤ suc k → places n ≤ suc (suc k)
-    go (yes l) p = omega (arith, one-place n l)
-    go (no l) p = omega (arith, more-places n (omega arith))
-
-pub decimal-length : (k n : ℕ) → n < 10 ^ suc k → length (decimal n) ≤ suc k
-unfolding decimal
-decimal-length k n h = rw (digits-length 10 (places n) n) (places-most k n h)
-
-pub pattern-length : (n : ℕ) → length (pattern n) ≡ 8
-unfolding pattern
-pattern-length n = digits-length 16 8 n
-
 -- a digit is no comma
 digit-least : (d : ℕ) → 48 ≤ digit d
 unfolding digit
@@ -100,13 +69,9 @@ digit-least d = go (ltb d 10)
     go true = omega arith
     go false = omega arith
 
-no-comma : (base k n : ℕ) → indexOf 44 (digits base k n) ≡ length (digits base k n)
+pub no-comma : (base k n : ℕ) → indexOf 44 (digits base k n) ≡ length (digits base k n)
 unfolding digits indexOf
 no-comma base zero n = refl
 no-comma base (suc k) n =
     let d = digit (n / base ^ k % base) in
     rw (ne-eqb d 44 (λ e. omega (arith, digit-least (n / base ^ k % base)))) (ap suc (no-comma base k n))
-
-pub decimal-no-comma : (n : ℕ) → indexOf 44 (decimal n) ≡ length (decimal n)
-unfolding decimal
-decimal-no-comma n = no-comma 10 (places n) n

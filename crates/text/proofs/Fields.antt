@@ -1,108 +1,110 @@
--- Laws of fields, in the terms of a search at place i or of the comma found at place e. Assumes nothing.
+-- The fields of a line: cut at a comma, counted, sought, and joined again. Assumes nothing.
 use Prim.Native.Nat.{ℕ, suc, _+_, _-_, _≤_, _<_}
-use native.Mathlib.Nat.{not-suc-le-zero, eq-or-lt-of-le}
-use native.Mathlib.Numerals.{add-one}
+use native.Mathlib.Nat.{not-suc-le-zero, sub-zero}
 use native.Mathlib.Omega.{arith}
+use native.Mathlib.Decide.{decLt}
 use mathlib.Core.Path.{_≡_, refl, sym, ap, _∙_}
-use mathlib.Core.Logic.{⊎-elim}
 use mathlib.Core.Bool.{Bool, true, false, cond}
 use mathlib.Core.List.{List, [], _∷_, _++_}
 use lib.Dec.{eqb}
-use lib.ListN.{length, getD, take, drop, drop-of-length-le, length-drop, length-append}
-use lib.Seq.{drop-cons, drop-drop, take-all, split-at, take-append-seam, getD-append-seam}
-use borrow.Author.Tests.{eq-eqb, ne-eqb, eqb-true}
-use Rattle.text.specs.Read.{ended, body, indexOf, attach, fields}
+use lib.ListN.{length, getD, take, drop, length-drop}
+use lib.Seq.{take-all}
+use borrow.Author.Tests.{eqb-true}
+use Rattle.text.specs.Read.{indexOf, attach, fields, field}
+use Rattle.text.proofs.Find.{found-inside, found-offset, found-below, found-none, found-after}
 
-module _ (s : List ℕ) (i : ℕ) where
-  pub indexOf-end : (b : ℕ) → length s ≤ i → indexOf b (drop i s) ≡ 0
-  unfolding indexOf
-  indexOf-end b h = rw (drop-of-length-le s {i = i} h)
-
-  pub indexOf-here : (b : ℕ) → i < length s → getD s i 0 ≡ b → indexOf b (drop i s) ≡ 0
-  unfolding indexOf
-  indexOf-here b h e = rw (drop-cons s i 0 h, eq-eqb (getD s i 0) b e)
-
-  pub indexOf-step : (b : ℕ) → i < length s → (getD s i 0 ≡ b → ⊥) → indexOf b (drop i s) ≡ indexOf b (drop (i + 1) s) + 1
-  unfolding indexOf
-  indexOf-step b h e = rw (drop-cons s i 0 h, ne-eqb (getD s i 0) b e, add-one i) (sym (add-one _))
-
-pub indexOf-le : (b : ℕ) (l : List ℕ) → indexOf b l ≤ length l
-unfolding indexOf
-indexOf-le b [] = omega arith
-indexOf-le b (x ∷ xs) = go (eqb x b) (indexOf-le b xs)
-  where
-    go : (t : Bool) → indexOf b xs ≤ length xs → cond t 0 (suc (indexOf b xs)) ≤ suc (length xs)
-    go true h = omega arith
-    go false h = omega arith
-
--- a line with a comma: the field before it, and the fields of what follows
-pub fields-split : (l : List ℕ) → indexOf 44 l < length l → fields l ≡ take (indexOf 44 l) l ∷ fields (drop (suc (indexOf 44 l)) l)
+-- ---- the first comma of a line cuts it: the field before it, and the fields of what follows
+first-field : (l : List ℕ) → indexOf 44 l < length l → fields l ≡ take (indexOf 44 l) l ∷ fields (drop (suc (indexOf 44 l)) l)
 unfolding indexOf fields attach
-fields-split [] h = absurd (not-suc-le-zero h)
-fields-split (x ∷ xs) h = go (eqb x 44) (fields-split xs) h
+first-field [] h = absurd (not-suc-le-zero h)
+first-field (x ∷ xs) h = go (eqb x 44) (first-field xs) h
   where
+    rest : ℕ → List (List ℕ)
+    rest i = take i (x ∷ xs) ∷ fields (drop (suc i) (x ∷ xs))
+
     go : (t : Bool) → (indexOf 44 xs < length xs → fields xs ≡ take (indexOf 44 xs) xs ∷ fields (drop (suc (indexOf 44 xs)) xs))
         → cond t 0 (suc (indexOf 44 xs)) < suc (length xs)
-        → cond t ([] ∷ fields xs) (attach x (fields xs)) ≡ take (cond t 0 (suc (indexOf 44 xs))) (x ∷ xs) ∷ fields (drop (suc (cond t 0 (suc (indexOf 44 xs)))) (x ∷ xs))
+        → cond t ([] ∷ fields xs) (attach x (fields xs)) ≡ rest (cond t 0 (suc (indexOf 44 xs)))
     go true ih k = refl
     go false ih k = ap (attach x) (ih (omega arith))
 
 -- a line with no comma is its one field
-pub fields-last : (l : List ℕ) → length l ≤ indexOf 44 l → fields l ≡ l ∷ []
+pub only-field : (l : List ℕ) → length l ≤ indexOf 44 l → fields l ≡ l ∷ []
 unfolding indexOf fields attach
-fields-last [] h = refl
-fields-last (x ∷ xs) h = go (eqb x 44) (fields-last xs) h
+only-field [] h = refl
+only-field (x ∷ xs) h = go (eqb x 44) (only-field xs) h
   where
-    go : (t : Bool) → (length xs ≤ indexOf 44 xs → fields xs ≡ xs ∷ [])
-        → suc (length xs) ≤ cond t 0 (suc (indexOf 44 xs))
+    go : (t : Bool) → (length xs ≤ indexOf 44 xs → fields xs ≡ xs ∷ []) → suc (length xs) ≤ cond t 0 (suc (indexOf 44 xs))
         → cond t ([] ∷ fields xs) (attach x (fields xs)) ≡ (x ∷ xs) ∷ []
     go true ih k = absurd (not-suc-le-zero k)
     go false ih k = ap (attach x) (ih (omega arith))
 
--- e is the place of the first b of s from at on
-module _ (s : List ℕ) (at e b : ℕ) (found : e ≡ at + indexOf b (drop at s)) (h : at ≤ length s) where
-  pub place-from : at ≤ e
-  place-from = omega arith
+-- the same in the terms of a loop: at is where a field begins, e the comma found, or the line's end
+module _ (line : List ℕ) (at e : ℕ) (inside : at ≤ length line) (found : e ≡ at + indexOf 44 (drop at line)) where
+  cut : (e ≡ length line → ⊥) → fields (drop at line) ≡ take (e - at) (drop at line) ∷ fields (drop (e + 1) line)
+  cut some = first-field (drop at line) (found-below line at e 44 inside found some) ∙ rw (found-after line at e 44 inside found, found-offset line at e 44 inside found)
 
-  pub place-to : e ≤ length s
-  place-to = omega (arith, indexOf-le b (drop at s), length-drop at s)
+  uncut : e ≡ length line → fields (drop at line) ≡ take (e - at) (drop at line) ∷ []
+  uncut none =
+      only-field (drop at line) (found-none line at e 44 inside found none) ∙ rw (take-all (e - at) (drop at line) (omega (arith, length-drop at line)))
 
-  place-short : e < length s → indexOf b (drop at s) < length (drop at s)
-  place-short l = omega (arith, length-drop at s)
+-- ---- a loop that counts fields: n - 1 are counted before place at
+pub record Counting (line : List ℕ) (n at : ℕ) : Type 0 where
+  pub inside : at ≤ length line
+  pub few : n ≤ at + 1
+  pub sum : length (fields line) + 1 ≡ n + length (fields (drop at line))
 
-  place-end : e ≡ length s → length (drop at s) ≤ indexOf b (drop at s)
-  place-end l = omega (arith, length-drop at s)
+module _ {line : List ℕ} {n at e : ℕ} (g : Counting line n at) (found : e ≡ at + indexOf 44 (drop at line)) where
+  pub count-inside : e ≤ length line
+  count-inside = found-inside line at e 44 (g .inside) found
 
-  place-len : indexOf b (drop at s) ≡ e - at
-  place-len = omega arith
+  pub count-turn : (e ≡ length line → ⊥) → Counting line (n + 1) (e + 1)
+  count-turn some = record {
+    inside = omega (arith, count-inside);
+    few = omega (arith, g .few);
+    sum = omega (arith, g .sum, ap length (cut line at e (g .inside) found some));
+  }
 
-  place-next : drop (suc (indexOf b (drop at s))) (drop at s) ≡ drop (e + 1) s
-  place-next =
-      let q : at + suc (indexOf b (drop at s)) ≡ e + 1 = omega arith in
-      drop-drop (suc (indexOf b (drop at s))) at s ∙ ap (λ (k : ℕ). drop k s) q
+  pub count-end : e ≡ length line → n ≡ length (fields line)
+  count-end none = omega (arith, g .sum, ap length (uncut line at e (g .inside) found none))
 
-module _ (s : List ℕ) (at e : ℕ) (found : e ≡ at + indexOf 44 (drop at s)) (h : at ≤ length s) where
-  pub fields-from : e < length s → fields (drop at s) ≡ take (e - at) (drop at s) ∷ fields (drop (e + 1) s)
-  fields-from l =
-      fields-split (drop at s) (place-short s at e 44 found h l)
-      ∙ rw (place-next s at e 44 found h, place-len s at e 44 found h)
+-- ---- a loop that seeks field k: j fields lie before place at
+pub record Seeking (line : List ℕ) (k at j : ℕ) : Type 0 where
+  pub inside : at ≤ length line
+  pub passed : j ≤ k
+  pub left : field k line ≡ getD (fields (drop at line)) (k - j) []
 
-  pub fields-to : e ≡ length s → fields (drop at s) ≡ take (e - at) (drop at s) ∷ []
-  fields-to l = fields-last (drop at s) (place-end s at e 44 found h l)
-      ∙ ap (λ (f : List ℕ). f ∷ []) (sym (take-all (e - at) (drop at s) (omega (arith, length-drop at s))))
+pub seek-begin : (line : List ℕ) (k : ℕ) → Seeking line k 0 0
+unfolding field
+seek-begin line k = record { inside = omega arith; passed = omega arith; left = rw sub-zero }
 
-  pub field-next : (m : ℕ) → e < length s → getD (fields (drop at s)) (suc m) [] ≡ getD (fields (drop (e + 1) s)) m []
-  field-next m l = ap (λ (fs : List (List ℕ)). getD fs (suc m) []) (fields-from l)
+module _ {line : List ℕ} {k at j e : ℕ} (g : Seeking line k at j) (found : e ≡ at + indexOf 44 (drop at line)) where
+  pub seek-inside : e ≤ length line
+  seek-inside = found-inside line at e 44 (g .inside) found
 
-  pub field-none : (m : ℕ) → e ≡ length s → getD (fields (drop at s)) (suc m) [] ≡ []
-  field-none m l = ap (λ (fs : List (List ℕ)). getD fs (suc m) []) (fields-to l)
+  pub seek-turn : j < k → (e ≡ length line → ⊥) → Seeking line k (e + 1) (j + 1)
+  seek-turn h some =
+      let next : k - j ≡ suc (k - (j + 1)) = omega arith in
+      record {
+        inside = omega (arith, seek-inside);
+        passed = omega arith;
+        left = g .left ∙ rw (cut line at e (g .inside) found some, next);
+      }
 
-  pub field-here : getD (fields (drop at s)) 0 [] ≡ take (e - at) (drop at s)
-  field-here =
-      ⊎-elim
-      (λ l. ap (λ (fs : List (List ℕ)). getD fs 0 []) (fields-to l))
-      (λ l. ap (λ (fs : List (List ℕ)). getD fs 0 []) (fields-from l))
-      (eq-or-lt-of-le (place-to s at e 44 found h))
+  pub seek-none : j < k → e ≡ length line → [] ≡ field k line
+  seek-none h none =
+      let next : k - j ≡ suc (k - (j + 1)) = omega arith in
+      sym (g .left ∙ rw (uncut line at e (g .inside) found none, next))
+
+  pub seek-end : k ≤ j → take (e - at) (drop at line) ≡ field k line
+  seek-end h = sym (g .left ∙ go (decLt e (length line)))
+    where
+      last : k - j ≡ 0
+      last = omega (arith, g .passed)
+
+      go : Dec (e < length line) → getD (fields (drop at line)) (k - j) [] ≡ take (e - at) (drop at line)
+      go (yes some) = rw (cut line at e (g .inside) found (λ none. omega arith), last)
+      go (no none) = rw (uncut line at e (g .inside) found (omega (arith, seek-inside)), last)
 
 -- ---- fields and the line that they stand in
 
@@ -157,22 +159,3 @@ next-field (x ∷ f) rest h = go (eqb x 44) (next-field f rest) h
         → cond t ([] ∷ fields (f ++ (44 ∷ rest))) (attach x (fields (f ++ (44 ∷ rest)))) ≡ (x ∷ f) ∷ fields rest
     go true ih h = absurd (omega arith)
     go false ih h = ap (attach x) (ih (omega arith))
-
--- ---- a line and its end
-
-pub ended-line : (line : List ℕ) → (ended (line ++ (10 ∷ [])) ≡ true) × (body (line ++ (10 ∷ [])) ≡ line)
-unfolding ended body
-ended-line line =
-    let n : length (line ++ (10 ∷ [])) - 1 ≡ length line = omega (arith, length-append line (10 ∷ [])) in
-    rw n (eq-eqb _ 10 (getD-append-seam line 10 [] 0), take-append-seam line (10 ∷ []))
-
-pub line-ended : (text : List ℕ) → ended text ≡ true → text ≡ body text ++ (10 ∷ [])
-unfolding ended body
-line-ended text h = go text h
-  where
-    go : (text : List ℕ) → eqb (getD text (length text - 1) 0) 10 ≡ true → text ≡ take (length text - 1) text ++ (10 ∷ [])
-    go [] h = let z : _≡_ {A = ℕ} 0 1 = cc in absurd (omega arith)
-    go (x ∷ xs) h =
-        let n = length (x ∷ xs) - 1 in
-        let over : length (x ∷ xs) ≤ suc n = omega arith in
-        split-at (x ∷ xs) n 0 (omega arith) ∙ rw (eqb-true (getD (x ∷ xs) n 0) 10 h, drop-of-length-le (x ∷ xs) {i = suc n} over)

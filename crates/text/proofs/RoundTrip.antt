@@ -1,7 +1,7 @@
 -- Reading and writing agree: a number that is written is read back, and a decimal that is read is the one that is written. Assumes nothing.
 use Prim.Native.Nat.{ℕ, zero, suc, _+_, _-_, _*_, _/_, _%_, _^_, _≤_, _<_, max}
-use native.Mathlib.Nat.{zero-add, add-zero, add-assoc, add-mul, mul-one, one-mul, mul-assoc, zero-mul, pow-zero, pow-suc, pow-succ', one-le-pow, mod-lt, mod-one, mod-eq-of-lt, div-one, div-div-eq-div-mul, le-div-iff-mul-le, div-lt-iff-lt-mul}
-use native.Mathlib.Numerals.{add-one}
+use native.Mathlib.Nat.{zero-add, add-zero, add-assoc, zero-mul, mul-one, one-mul, mul-assoc, add-mul, pow-zero, pow-suc, pow-succ', one-le-pow}
+use native.Mathlib.Nat.{mod-lt, mod-one, mod-eq-of-lt, div-one, div-div-eq-div-mul, le-div-iff-mul-le, div-lt-iff-lt-mul}
 use native.Mathlib.Omega.{arith}
 use native.Mathlib.Decide.{decLt}
 use mathlib.Core.Path.{_≡_, refl, sym, ap, _∙_}
@@ -10,14 +10,18 @@ use mathlib.Core.List.{List, [], _∷_}
 use lib.Arith.{mod-mul, digits-div, digits-mod}
 use lib.Dec.{ltb, leb, eqb}
 use lib.ListN.{length}
-use borrow.Author.Tests.{lt-ltb, le-ltb, le-leb, lt-leb, ltb-true, ltb-false, leb-true, leb-false, eq-eqb, ne-eqb}
+use borrow.Author.Tests.{lt-ltb, le-ltb, le-leb, lt-leb, ltb-true, ltb-false, leb-true, eq-eqb, ne-eqb}
 use Rattle.text.specs.Read as Read
 use Rattle.text.specs.Read.{numeral, upTo, wellFormed}
 use Rattle.text.specs.Write as Write
 use Rattle.text.specs.Write.{digits, places}
 use Rattle.text.specs.declared.read.Number.{Number}
 use Rattle.text.specs.declared.read.Number.the-variants.{Value, Invalid}
-use Rattle.text.proofs.Digits.{digits-length, one-place, more-places}
+use Rattle.text.proofs.Digits.{digits-length}
+use Rattle.text.proofs.Places.{one-place, places-hold, places-are}
+
+no-value : {C : Type 0} {n : ℕ} → Invalid ≡ Value n → C
+no-value h = let z : _≡_ {A = ℕ} 0 1 = cc in absurd (omega arith)
 
 -- ---- one digit
 written-digit : (d : ℕ) → d < 16 → Read.digit (Write.digit d) ≡ d
@@ -30,7 +34,8 @@ written-digit d h = go (ltb d 10) refl
         rw (le-ltb (48 + d) 48 (omega arith), le-leb (48 + d) 57 (omega arith)) (omega arith)
     go false e =
         let l = ltb-false d 10 e in
-        rw (le-ltb (97 + (d - 10)) 48 (omega arith), lt-leb (97 + (d - 10)) 57 (omega arith), le-ltb (97 + (d - 10)) 97 (omega arith), le-leb (97 + (d - 10)) 102 (omega arith)) (omega arith)
+        let b = 97 + (d - 10) in
+        rw (le-ltb b 48 (omega arith), lt-leb b 57 (omega arith), le-ltb b 97 (omega arith), le-leb b 102 (omega arith)) (omega arith)
 
 read-digit : (b : ℕ) → Read.digit b < 16 → Write.digit (Read.digit b) ≡ b
 unfolding Read.digit Write.digit
@@ -78,35 +83,11 @@ module _ (base : ℕ) (some : 0 < base) (few : base ≤ 16) where
             rw (pow-suc base (length ds), ← div-div-eq-div-mul n (base ^ length ds) base, r .0) (digits-div m below),
             rw (r .0, digits-mod m below, read-digit d (omega arith), r .1),
           )
-      go false e ih h = let z : _≡_ {A = ℕ} 0 1 = cc in absurd (omega arith)
+      go false e ih h = no-value h
 
--- ---- decimals
-by-tens : (P : ℕ → Type 0) → ((n : ℕ) → n < 10 → P n) → ((n : ℕ) → 10 ≤ n → P (n / 10) → P n) → (n : ℕ) → P n
-by-tens P small large n = go n n (omega arith)
-  where
-    go : (steps n : ℕ) → n ≤ steps → P n
-    go zero n h = small n (omega arith)
-    go (suc steps) n h = pick (decLt n 10) (go steps (n / 10) (omega arith))
-      where
-        pick : Dec (n < 10) → P (n / 10) → P n
-        pick (yes l) p = small n l
-        pick (no l) p = large n (omega arith) p
+-- ---- numbers that are written
 
--- as many digits hold n, and one less does not, but in 0
-places-hold : (n : ℕ) → (n < 10 ^ places n) × (10 ^ places n ≤ max n 1 * 10)
-places-hold =
-    by-tens (λ n. (n < 10 ^ places n) × (10 ^ places n ≤ max n 1 * 10))
-    (λ n h. rw (one-place n h) (h, omega arith))
-    (λ n h ih. rw (more-places n h, pow-suc 10 (places (n / 10))) (omega (arith, ih .0), omega (arith, ih .1)))
-
--- a number between two powers of ten
-places-are : (k n : ℕ) → 10 ^ k ≤ n → n < 10 ^ suc k → places n ≡ suc k
-places-are zero n h l = one-place n l
-places-are (suc k) n h l =
-    let more : 10 ≤ n = omega (arith, h, pow-suc 10 k, one-le-pow k 10 (omega arith)) in
-    more-places n more ∙ ap suc (places-are k (n / 10) (omega (arith, h, pow-suc 10 k)) (omega (arith, l, pow-suc 10 (suc k))))
-
--- its leading digit
+-- the leading digit of a number between two powers of ten
 leading : (k n : ℕ) → 10 ^ k ≤ n → n < 10 ^ suc k → (0 < n / 10 ^ k) × (n / 10 ^ k < 10)
 leading k n h l =
     let pos : 0 < 10 ^ k = one-le-pow k 10 (omega arith) in
@@ -139,31 +120,38 @@ pub pattern-back : (n : ℕ) → n < 2 ^ 32 → Read.pattern (Write.pattern n) �
 unfolding Read.pattern Write.pattern
 pattern-back n h = rw (digits-length 16 8 n) (written-digits 16 (omega arith) (omega arith) 8 n 0 ∙ ap Value (rw (zero-mul, zero-add) (mod-eq-of-lt h)))
 
+-- ---- decimals that are read
+
 -- a decimal that is read has as many digits as are written
+quotient-zero : (n p : ℕ) → 0 < p → n / p ≡ 0 → n < p
+quotient-zero n p pos e = rw one-mul at (div-lt-iff-lt-mul {x = n} {y = 1} pos .0 (omega arith))
+
+quotient-some : (n p : ℕ) → 0 < p → 0 < n / p → p ≤ n
+quotient-some n p pos h = rw one-mul at (le-div-iff-mul-le {x = 1} pos .0 h)
+
 read-places : (text : List ℕ) (n : ℕ) → wellFormed text ≡ true → numeral 10 0 text ≡ Value n → length text ≡ places n
 unfolding wellFormed digits Write.digit
 read-places [] n w h = let z : _≡_ {A = ℕ} 0 1 = cc in absurd (omega arith)
 read-places (d ∷ []) n w h = sym (one-place n (omega (arith, read-digits 10 (omega arith) (omega arith) (d ∷ []) 0 n h .0)))
 read-places (d ∷ e ∷ ds) n w h = go (decLt 0 (n / power)) (read-digits 10 (omega arith) (omega arith) (d ∷ e ∷ ds) 0 n h)
   where
+    k : ℕ
+    k = suc (length ds)
+
     power : ℕ
-    power = 10 ^ suc (length ds)
+    power = 10 ^ k
 
-    pos : 0 < power
-    pos = one-le-pow (suc (length ds)) 10 (omega arith)
-
-    go : Dec (0 < n / power) → (n / 10 ^ suc (suc (length ds)) ≡ 0) × (digits 10 (suc (suc (length ds))) n ≡ d ∷ e ∷ ds) → suc (suc (length ds)) ≡ places n
-    go (yes l) r =
-        let least : power ≤ n = rw one-mul at (le-div-iff-mul-le {x = 1} pos .0 l) in
-        let below : n / 10 ^ suc (suc (length ds)) < 1 = omega (arith, r .0) in
-        let most : n < 10 ^ suc (suc (length ds)) = rw one-mul at (div-lt-iff-lt-mul {y = 1} (one-le-pow (suc (suc (length ds))) 10 (omega arith)) .0 below) in
-        sym (places-are (suc (length ds)) n least most)
-    go (no l) r =
+    go : Dec (0 < n / power) → (n / 10 ^ suc k ≡ 0) × (digits 10 (suc k) n ≡ d ∷ e ∷ ds) → suc k ≡ places n
+    go (yes some) r =
+        let least = quotient-some n power (one-le-pow k 10 (omega arith)) some in
+        let most = quotient-zero n (10 ^ suc k) (one-le-pow (suc k) 10 (omega arith)) (r .0) in
+        sym (places-are k n least most)
+    go (no none) r =
+        let leads : Write.digit (n / power % 10) ≡ d = cc (r .1) in
         let none : n / power ≡ 0 = omega arith in
-        let first : Write.digit (n / power % 10) ≡ d = cc (r .1) in
-        let zero-first : 48 ≡ d = rw none at first in
-        let z : _≡_ {A = Bool} false true = rw (eq-eqb d 48 (sym zero-first)) at w in
-        let y : _≡_ {A = ℕ} 0 1 = cc in
+        let zero-leads : 48 ≡ d = rw none at leads in
+        let t : false ≡ true = rw (eq-eqb d 48 (sym zero-leads)) at w in
+        let z : _≡_ {A = ℕ} 0 1 = cc in
         absurd (omega arith)
 
 up-to : (limit n : ℕ) (x : Number) → upTo limit x ≡ Value n → (x ≡ Value n) × (n ≤ limit)
@@ -172,8 +160,8 @@ up-to limit n (Value m) h = go (leb m limit) refl h
   where
     go : (t : Bool) → leb m limit ≡ t → cond t (Value m) Invalid ≡ Value n → (Value m ≡ Value n) × (n ≤ limit)
     go true e h = let m-is : m ≡ n = cc in (h, omega (arith, leb-true m limit e))
-    go false e h = let z : _≡_ {A = ℕ} 0 1 = cc in absurd (omega arith)
-up-to limit n Invalid h = let z : _≡_ {A = ℕ} 0 1 = cc in absurd (omega arith)
+    go false e h = no-value h
+up-to limit n Invalid h = no-value h
 
 pub decimal-read : (limit n : ℕ) (text : List ℕ) → Read.decimal limit text ≡ Value n → (text ≡ Write.decimal n) × (n ≤ limit)
 unfolding Read.decimal Write.decimal
@@ -182,5 +170,6 @@ decimal-read limit n text h = go (wellFormed text) refl h
     go : (t : Bool) → wellFormed text ≡ t → cond t (upTo limit (numeral 10 0 text)) Invalid ≡ Value n → (text ≡ digits 10 (places n) n) × (n ≤ limit)
     go true w h =
         let r = up-to limit n (numeral 10 0 text) h in
-        (sym (rw (← read-places text n w (r .0)) (read-digits 10 (omega arith) (omega arith) text 0 n (r .0) .1)), r .1)
-    go false w h = let z : _≡_ {A = ℕ} 0 1 = cc in absurd (omega arith)
+        let same = read-digits 10 (omega arith) (omega arith) text 0 n (r .0) .1 in
+        (sym (rw (← read-places text n w (r .0)) same), r .1)
+    go false w h = no-value h

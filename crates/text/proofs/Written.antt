@@ -5,7 +5,7 @@ use native.Mathlib.Omega.{arith}
 use native.Mathlib.Decide.{decLe}
 use mathlib.Core.Path.{_≡_, refl, sym, ap, _∙_}
 use mathlib.Core.List.{List, [], _∷_, _++_}
-use lib.ListN.{length, drop, set, length-append}
+use lib.ListN.{length, set, length-append}
 use lib.Seq.{sets, length-sets, sets-eq, set-out}
 use Rattle.text.specs.Write.{Written, Whole}
 
@@ -35,7 +35,8 @@ nothing out at = record { contents = refl; place = omega arith }
 pub same-length : {out text out′ : List ℕ} {at end : ℕ} → Written out at text end out′ → length out′ ≡ length out
 same-length {out} {text} {out′} {at} w = ap length (w .contents) ∙ length-sets out at text
 
-pub then : {out out₁ out₂ a b : List ℕ} {at at₁ at₂ : ℕ} → Written out at a at₁ out₁ → Written out₁ at₁ b at₂ out₂ → Written out at (a ++ b) at₂ out₂
+pub then : {out out₁ out₂ a b : List ℕ} {at at₁ at₂ : ℕ}
+    → Written out at a at₁ out₁ → Written out₁ at₁ b at₂ out₂ → Written out at (a ++ b) at₂ out₂
 then {out} {out₁} {out₂} {a} {b} {at} v w = record {
   contents = w .contents ∙ rw (v .contents, v .place, sets-append a b out at, ← length-sets out at a) (sets-from b (sets out at a) at (length a));
   place = omega (arith, v .place, w .place, same-length v, length-append a b);
@@ -58,7 +59,8 @@ pub record Writing (out₀ : List ℕ) (at₀ : ℕ) (text left : List ℕ) (at 
 pub begin : (out : List ℕ) (at : ℕ) (text : List ℕ) → Writing out at text text at out
 begin out at text = record { long = refl; rest = λ w. w }
 
-pub turn : {out₀ text a b out out₁ : List ℕ} {at₀ at at₁ : ℕ} → Writing out₀ at₀ text (a ++ b) at out → Written out at a at₁ out₁ → Writing out₀ at₀ text b at₁ out₁
+pub turn : {out₀ text a b out out₁ : List ℕ} {at₀ at at₁ : ℕ}
+    → Writing out₀ at₀ text (a ++ b) at out → Written out at a at₁ out₁ → Writing out₀ at₀ text b at₁ out₁
 turn g v = record { long = same-length v ∙ g .long; rest = λ w. g .rest (then v w) }
 
 pub end : {out₀ text out : List ℕ} {at₀ at : ℕ} → Writing out₀ at₀ text [] at out → Written out₀ at₀ text at out

@@ -3,7 +3,7 @@ use Prim.Native.Nat.{ℕ, zero, suc, _+_, _-_, _/_, _%_, _^_, min}
 use Prim.Native.Char.{code}
 use Prim.Native.String.{String, [] as []ˢ, _∷_ as _∷ˢ_}
 use mathlib.Core.Path.{_≡_}
-use mathlib.Core.Bool.{cond}
+use mathlib.Core.Bool.{Bool, true, false, cond}
 use mathlib.Core.List.{List, [], _∷_, _++_}
 use lib.Dec.{ltb}
 use lib.ListN.{length, drop}
@@ -25,14 +25,16 @@ unfoldable pub digits : ℕ → ℕ → ℕ → List ℕ
 digits base zero n = []
 digits base (suc k) n = digit (n / base ^ k % base) ∷ digits base k n
 
--- how many decimal digits n has, counted by at most `steps` divisions
-unfoldable pub placesWithin : ℕ → ℕ → ℕ
-placesWithin zero n = 1
-placesWithin (suc steps) n = cond (ltb n 10) 1 (suc (placesWithin steps (n / 10)))
+-- How many decimal digits n has, counted by at most `steps` divisions; `one` says whether n has one.
+-- (It is an argument to match on: a recursive call under a `cond` is worked out whether or not it is taken.)
+unfoldable pub placesWithin : ℕ → Bool → ℕ → ℕ
+placesWithin zero one n = 1
+placesWithin (suc steps) true n = 1
+placesWithin (suc steps) false n = suc (placesWithin steps (ltb (n / 10) 10) (n / 10))
 
 -- n divisions are always enough
 unfoldable pub places : ℕ → ℕ
-places n = placesWithin n n
+places n = placesWithin n (ltb n 10) n
 
 -- n in decimal: all its digits, and no zero in front
 unfoldable pub decimal : ℕ → List ℕ

@@ -28,7 +28,9 @@ same-length c = search needs
 
 returns : tie.Need-returns
 unfolding answer
-returns c = rw (c .before .before .before .before .before .before .before .before .before .before .request .given .1) (then (c .before .before .before .before .before .before .bytes .ensures) (c .before .before .put-rows .ensures))
+returns c =
+    let header = c .before .before .before .before .before .before .bytes .ensures in
+    rw (c .before .before .before .before .before .before .before .before .before .before .request .given .1) (then header (c .before .before .put-rows .ensures))
 
 same-length-2 : tie.Need-same-length-2
 same-length-2 c = search needs

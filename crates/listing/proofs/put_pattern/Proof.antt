@@ -17,7 +17,9 @@ same-length : tie.Need-same-length
 same-length c = search needs
 
 returns : tie.Need-returns
-returns c = then (rw (c .before .before .before .before .before .before .before .pattern-of .ensures) at (c .before .before .before .before .before .before .pattern .ensures)) (c .before .before .byte .ensures)
+returns c =
+    let pattern = rw (c .before .before .before .before .before .before .before .pattern-of .ensures) at (c .before .before .before .before .before .before .pattern .ensures) in
+    then pattern (c .before .before .byte .ensures)
 
 pub put-pattern-spec : {M : Type 1} → statement M
 put-pattern-spec =

@@ -30,8 +30,9 @@ same-length c = search needs
 returns : tie.Need-returns
 unfolding text
 returns c =
-    let first = rw (c .before .before .before .before .before .before .before .number .ensures) at (c .before .before .before .before .before .before .put-number .ensures) in
-    simp append-assoc (simp append-assoc at (then (then (c .before .before .before .before .before .before .before .before .before .before .before .bytes .ensures) first) (c .before .before .put-number2 .ensures)))
+    let start = c .before .before .before .before .before .before .before .before .before .before .before .bytes .ensures in
+    let number = rw (c .before .before .before .before .before .before .before .number .ensures) at (c .before .before .before .before .before .before .put-number .ensures) in
+    simp append-assoc (simp append-assoc at (then (then start number) (c .before .before .put-number2 .ensures)))
 
 pub put-refused-spec : {M : Type 1} → statement M
 put-refused-spec =

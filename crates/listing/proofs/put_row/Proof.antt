@@ -24,7 +24,9 @@ same-length c = search needs
 returns : tie.Need-returns
 unfolding row
 returns c =
-    simp append-assoc (simp append-assoc at (then (then (c .before .before .before .before .before .before .before .before .before .before .put-number .ensures) (c .before .before .before .before .before .before .put-number2 .ensures)) (c .before .before .put-pattern .ensures)))
+    let number = c .before .before .before .before .before .before .before .before .before .before .put-number .ensures in
+    let word = c .before .before .before .before .before .before .put-number2 .ensures in
+    simp append-assoc (simp append-assoc at (then (then number word) (c .before .before .put-pattern .ensures)))
 
 pub put-row-spec : {M : Type 1} → statement M
 put-row-spec =

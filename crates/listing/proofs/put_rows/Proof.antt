@@ -22,11 +22,14 @@ loop-holds c = rw sub-zero (begin _ _ _)
 get-float-requires : tie.Need-get-float-requires Inv-loop μ-loop
 get-float-requires c κs = search needs
 
-add-drawn : tie.Need-add-drawn Inv-loop μ-loop
-add-drawn c = search needs
+add-put-row : tie.Need-add-put-row Inv-loop μ-loop
+add-put-row c = search needs
 
 put-row-requires : tie.Need-put-row-requires Inv-loop μ-loop
 put-row-requires c κs = search needs
+
+add-drawn : tie.Need-add-drawn Inv-loop μ-loop
+add-drawn c = search needs
 
 loop-less : tie.Need-loop-less Inv-loop μ-loop
 loop-less c = search needs
@@ -58,8 +61,9 @@ put-rows-spec =
     μ-loop
     loop-holds
     get-float-requires
-    add-drawn
+    add-put-row
     put-row-requires
+    add-drawn
     loop-less
     loop-again
     same-length

@@ -25,7 +25,8 @@ returns-2 : tie.Need-returns-2
 unfolding readRequest
 returns-2 c =
     let yes = not-false (c .before .before .before .before .ended .result) (c .before .before .before .if1 .left) in
-    rw (← c .before .before .before .before .ended .ensures, yes, ← c .before .before .body .ensures) (sym (other-fields _ (λ e. c .if2 .taken (c .before .field-count .ensures ∙ e))))
+    let other = other-fields _ (λ two. c .if2 .taken (c .before .field-count .ensures ∙ two)) in
+    rw (← c .before .before .before .before .ended .ensures, yes, ← c .before .before .body .ensures) (sym other)
 
 field-requires : tie.Need-field-requires
 field-requires c κs = search needs
@@ -40,9 +41,9 @@ returns-3 : tie.Need-returns-3
 unfolding readRequest field
 returns-3 c =
     let yes = not-false (c .before .before .before .before .before .before .before .ended .result) (c .before .before .before .before .before .before .if1 .left) in
-    let two = sym (c .before .before .before .before .field-count .ensures) ∙ c .before .before .before .if2 .left in
-    c .read-numbers .ensures
-    ∙ rw (c .before .before .field .ensures, c .before .field2 .ensures, ← c .before .before .before .before .before .before .before .ended .ensures, yes, ← c .before .before .before .before .before .body .ensures) (sym (two-fields _ two))
+    let two = two-fields _ (sym (c .before .before .before .before .field-count .ensures) ∙ c .before .before .before .if2 .left) in
+    let read = rw (c .before .before .field .ensures, c .before .field2 .ensures) at (c .read-numbers .ensures) in
+    rw (← c .before .before .before .before .before .before .before .ended .ensures, yes, ← c .before .before .before .before .before .body .ensures) (read ∙ sym two)
 
 pub read-request-spec : {M : Type 1} → statement M
 read-request-spec =

@@ -1,16 +1,14 @@
 -- `text::read::field_count` meets its contract. Assumes nothing.
-use Rattle.text.proofs.Fields.{fields-from, fields-to, place-from, place-to}
-use Rattle.text.specs.Read.{indexOf, fields}
-use lib.ListN.{length, drop}
+use Prim.Native.Nat.{_-_}
 use native.Mathlib.Omega.{arith}
-use mathlib.Core.Path.{_≡_, ap}
-use Prim.Native.Nat.{ℕ, _≤_, _<_, _-_, _+_}
+use lib.ListN.{length}
 use borrow.Author.Needs.{needs}
+use Rattle.text.proofs.Fields.{Counting, count-inside, count-turn, count-end}
 use Rattle.text.proofs.read.field_count.Statement.{statement}
 use Rattle.text.proofs.read.field_count.Tie as tie
 
 abbrev Inv-loop : tie.InvT-loop
-Inv-loop line n₀ at₀ n at = (at ≤ length line) × (n ≤ at + 1) × (length (fields line) + 1 ≡ n + length (fields (drop at line)))
+Inv-loop line n₀ at₀ n at = Counting line n at
 
 abbrev μ-loop : tie.MeasureT-loop
 μ-loop line n₀ at₀ n at = length line - at
@@ -22,24 +20,19 @@ find-requires : tie.Need-find-requires Inv-loop μ-loop
 find-requires c κs = search needs
 
 returns : tie.Need-returns Inv-loop μ-loop
-returns c =
-    let l = c .before .before .loop in
-    omega (arith, l .inv .2, ap length (fields-to _ _ _ (c .before .find .ensures) (l .inv .0) (c .if1 .taken)))
+returns c = count-end (c .before .before .loop .inv) (c .before .find .ensures) (c .if1 .taken)
 
 add-at : tie.Need-add-at Inv-loop μ-loop
-add-at c = omega (arith, place-to _ _ _ _ (c .before .find .ensures) (c .before .before .loop .inv .0))
+add-at c = omega (arith, count-inside (c .before .before .loop .inv) (c .before .find .ensures))
 
 add-n : tie.Need-add-n Inv-loop μ-loop
 add-n c = search needs
 
 loop-less : tie.Need-loop-less Inv-loop μ-loop
-loop-less c = omega (arith, place-to _ _ _ _ (c .before .find .ensures) (c .before .before .loop .inv .0))
+loop-less c = omega (arith, count-inside (c .before .before .loop .inv) (c .before .find .ensures))
 
 loop-again : tie.Need-loop-again Inv-loop μ-loop
-loop-again c =
-    let l = c .before .before .loop in
-    let below : c .before .find .result < length (c .before .before .before .before .args .line .now) = omega (arith, place-to _ _ _ _ (c .before .find .ensures) (l .inv .0)) in
-    omega (arith, l .inv, ap length (fields-from _ _ _ (c .before .find .ensures) (l .inv .0) below))
+loop-again c = count-turn (c .before .before .loop .inv) (c .before .find .ensures) (c .if1 .left)
 
 pub field-count-spec : {M : Type 1} → statement M
 field-count-spec =

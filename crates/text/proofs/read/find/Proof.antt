@@ -1,11 +1,11 @@
 -- `text::read::find` meets its contract. Assumes nothing.
-use Rattle.text.proofs.Fields.{indexOf-end, indexOf-here, indexOf-step}
-use Rattle.text.specs.Read.{indexOf}
-use lib.ListN.{length, drop}
+use Prim.Native.Nat.{_+_, _-_}
 use native.Mathlib.Omega.{arith}
 use mathlib.Core.Path.{_≡_}
-use Prim.Native.Nat.{ℕ, _≤_, _<_, _-_, _+_}
+use lib.ListN.{length, drop}
 use borrow.Author.Needs.{needs}
+use Rattle.text.specs.Read.{indexOf}
+use Rattle.text.proofs.Find.{search-over, search-here, search-on}
 use Rattle.text.proofs.read.find.Statement.{statement}
 use Rattle.text.proofs.read.find.Tie as tie
 
@@ -25,7 +25,7 @@ returns : tie.Need-returns Inv-loop μ-loop
 returns c =
     let i = c .before .before .before .loop .i in
     let a = c .before .before .before .before .args in
-    omega (arith, c .before .before .before .loop .inv, indexOf-here (a .s .now) i (a .b) (c .before .before .loop-test .taken) (c .if1 .taken))
+    omega (arith, c .before .before .before .loop .inv, search-here (a .s .now) i (a .b) (c .before .before .loop-test .taken) (c .if1 .taken))
 
 add-i : tie.Need-add-i Inv-loop μ-loop
 add-i c = search needs
@@ -37,13 +37,13 @@ loop-again : tie.Need-loop-again Inv-loop μ-loop
 loop-again c =
     let i = c .before .before .before .loop .i in
     let a = c .before .before .before .before .args in
-    omega (arith, c .before .before .before .loop .inv, indexOf-step (a .s .now) i (a .b) (c .before .before .loop-test .taken) (c .if1 .left))
+    omega (arith, c .before .before .before .loop .inv, search-on (a .s .now) i (a .b) (c .before .before .loop-test .taken) (c .if1 .left))
 
 returns-2 : tie.Need-returns-2 Inv-loop μ-loop
 returns-2 c =
     let i = c .before .loop .i in
     let a = c .before .before .args in
-    omega (arith, c .before .loop .inv, indexOf-end (a .s .now) i (a .b) (c .loop-test .left))
+    omega (arith, c .before .loop .inv, search-over (a .s .now) i (a .b) (c .loop-test .left))
 
 pub find-spec : {M : Type 1} → statement M
 find-spec =

@@ -1,7 +1,7 @@
 -- `text::write::decimal` meets its contract: a number of 64 bits has at most 20 digits. Assumes nothing.
 use native.Mathlib.Omega.{arith}
 use Rattle.text.specs.Write.{decimal}
-use Rattle.text.proofs.Digits.{places-most}
+use Rattle.text.proofs.Places.{places-most}
 use borrow.Author.Needs.{needs}
 use Rattle.text.proofs.write.decimal.Statement.{statement}
 use Rattle.text.proofs.write.decimal.Tie as tie

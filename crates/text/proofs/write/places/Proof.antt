@@ -3,7 +3,7 @@ use Prim.Native.Nat.{_+_, _<_}
 use native.Mathlib.Omega.{arith}
 use mathlib.Core.Path.{_≡_}
 use Rattle.text.specs.Write.{places}
-use Rattle.text.proofs.Digits.{one-place, more-places, places-most}
+use Rattle.text.proofs.Places.{one-place, more-places, places-most}
 use borrow.Author.Needs.{needs}
 use Rattle.text.proofs.write.places.Statement.{statement}
 use Rattle.text.proofs.write.places.Tie as tie

@@ -46,7 +46,7 @@ fn put_refused(out: &mut [u8], refusal: Refusal, line: u64) -> usize
 }
 
 // What the input of `draws` asks for.
-pub enum Request {
+enum Request {
     Draws { state: u32, count: u32 },
     Refused,
 }

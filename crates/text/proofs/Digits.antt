@@ -23,7 +23,7 @@ unfolding pattern
 pattern-length n = digits-length 16 8 n
 
 -- the last digit stands alone, and those before it are the digits of n / base
-pub last-digit : (base k n : ℕ) → digits base (suc k) n ≡ digits base k (n / base) ++ (digit (n % base) ∷ [])
+last-digit : (base k n : ℕ) → digits base (suc k) n ≡ digits base k (n / base) ++ (digit (n % base) ∷ [])
 unfolding digits
 last-digit base zero n = rw (pow-zero, div-one)
 last-digit base (suc k) n =

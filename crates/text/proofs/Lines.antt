@@ -1,4 +1,4 @@
--- A line and its end. Assumes nothing.
+-- A line and its end (10). Assumes nothing.
 use Prim.Native.Nat.{ℕ, suc, _-_, _≤_}
 use native.Mathlib.Omega.{arith}
 use mathlib.Core.Path.{_≡_, _∙_}

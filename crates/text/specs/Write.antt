@@ -46,12 +46,13 @@ pattern n = digits 16 8 n
 
 -- ---- a buffer
 
--- `out′` is `out` with the bytes of `text` stored from place `at` on, those left out that have no place in it; `end` is the place after the last one stored
+-- `text` written into `out` from place `at` on gives `out′`: its bytes are stored one after the other, and those past the end of `out` are dropped.
+-- `end` is the place after the last byte stored, or `at` where none is.
 pub record Written (out : List ℕ) (at : ℕ) (text : List ℕ) (end : ℕ) (out′ : List ℕ) : Type 0 where
   pub contents : out′ ≡ sets out at text
   pub place : end ≡ at + min (length text) (length out - at)
 
--- `out′` is `text`, then what `out` holds from the end of `text` on
+-- all of `text` stands at the start of `out′`, up to `end`, and after it what stood there in `out`
 pub record Whole (out text : List ℕ) (end : ℕ) (out′ : List ℕ) : Type 0 where
   pub contents : out′ ≡ text ++ drop end out
   pub place : end ≡ length text

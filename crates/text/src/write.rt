@@ -1,5 +1,5 @@
-// Bytes and numbers written into a buffer, from a place on. Each function answers the place after what it wrote; bytes that the
-// buffer has no room for are left out.
+// Bytes and numbers written into a buffer, from a place on. Bytes past the end of the buffer are dropped; the answer is the place
+// after the last byte written. So texts that are written one after the other need no test of the room between them.
 ghost use mathlib.Core.Path.{_≡_};
 ghost use mathlib.Core.List.{[], _∷_};
 ghost use Prim.Native.Nat.{_≤_, _<_};

@@ -35,8 +35,9 @@ add-n c = omega (arith, room (c .before .before .before .before .loop .inv) (ome
 
 returns-2 : tie.Need-returns-2 Inv-loop μ-loop
 returns-2 c =
-    too-large (c .before .before .before .before .before .loop .inv) (c .before .before .before .before .loop-test .taken) (c .before .before .digit .ensures)
-    (c .before .before .before .before .before .before .before .pre .0) (c .before .if1 .left) (c .if2 .taken)
+    let g = c .before .before .before .before .before .loop .inv in
+    let some = c .before .before .before .before .before .before .before .pre .0 in
+    too-large g (c .before .before .before .before .loop-test .taken) (c .before .before .digit .ensures) some (c .before .if1 .left) (c .if2 .taken)
 
 add-i : tie.Need-add-i Inv-loop μ-loop
 add-i c = search needs
@@ -46,7 +47,8 @@ loop-less c = search needs
 
 loop-again : tie.Need-loop-again Inv-loop μ-loop
 loop-again c =
-    turn (c .before .before .before .before .before .loop .inv) (c .before .before .before .before .loop-test .taken) (c .before .before .digit .ensures) (c .before .if1 .left) (c .if2 .left)
+    let g = c .before .before .before .before .before .loop .inv in
+    turn g (c .before .before .before .before .loop-test .taken) (c .before .before .digit .ensures) (c .before .if1 .left) (c .if2 .left)
 
 cast-t12 : tie.Need-cast-t12 Inv-loop μ-loop
 cast-t12 c = search needs

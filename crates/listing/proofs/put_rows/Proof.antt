@@ -1,5 +1,5 @@
 -- `listing::put_rows` meets its contract: what is left to write are the rows that are not yet drawn. Assumes nothing.
-use Prim.Native.Nat.{suc, _-_}
+use Prim.Native.Nat.{suc, _+_, _-_}
 use native.Mathlib.Nat.{sub-zero}
 use native.Mathlib.Numerals.{add-one}
 use native.Mathlib.Omega.{arith}
@@ -11,7 +11,7 @@ use Rattle.listing.proofs.put_rows.Statement.{statement}
 use Rattle.listing.proofs.put_rows.Tie as tie
 
 abbrev Inv-loop : tie.InvT-loop
-Inv-loop out₀ at state count end₀ word₀ drawn₀ out end word drawn = Writing out₀ at (rows 1 state count) (rows (suc drawn) word (count - drawn)) end out
+Inv-loop out₀ at state count end₀ word₀ drawn₀ out end word drawn = Writing out₀ at (rows 1 state count) (rows (drawn + 1) word (count - drawn)) end out
 
 abbrev μ-loop : tie.MeasureT-loop
 μ-loop out₀ at state count end₀ word₀ drawn₀ out end word drawn = count - drawn
@@ -39,9 +39,9 @@ unfolding rows
 loop-again c =
     let l = c .before .before .before .before .before .before .loop in
     let count = c .before .before .before .before .before .before .before .before .args .count in
-    let more : count - l .drawn ≡ suc (count - suc (l .drawn)) = omega arith in
-    let written = rw (add-one, c .before .before .before .before .get-float .ensures) at (c .before .before .put-row .ensures) in
-    rw (add-one, c .before .before .before .before .get-float .ensures) (turn (rw more at (l .inv)) written)
+    let more : count - l .drawn ≡ suc (count - (l .drawn + 1)) = omega arith in
+    let left = rw (more, ← c .before .before .before .before .get-float .ensures) at (l .inv) in
+    rw (add-one (l .drawn + 1)) (turn left (c .before .before .put-row .ensures))
 
 same-length : tie.Need-same-length Inv-loop μ-loop
 same-length c = c .before .loop .inv .long

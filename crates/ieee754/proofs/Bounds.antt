@@ -8,8 +8,9 @@ use native.Mathlib.Nat.{mul-pos, mul-le-mul, mul-le-mul-right, mul-lt-mul-of-pos
 use native.Mathlib.Decide.{decLe}
 use native.Mathlib.Omega.{arith}
 use lib.IntN.{ℤ}
-use lib.Dec.{T, ltb, eqb, eqb→eq, lit<, lit≤}
-use lib.Ieee.{Float, nan, inf, fin, Format, binary32, prec, emax, low, up, down, odd, units, round, sum, unlike, add, sub, neg, mul, le}
+use lib.Dec.{T, ltb, eqb, eqb→eq, not-T, lit<, lit≤}
+use lib.Ieee.{Float, nan, inf, fin, Format, binary32, binary64, prec, emax, low, up, down, odd, units, round, sum, unlike, add, sub, neg, mul, le}
+use lib.Ieee.Bits.{is-false}
 use lib.Ieee.Exact.{HasValue}
 use lib.Ieee.Fits.{round-is, and-l, down-pos}
 use lib.Ieee.Order.{kept, drop, round-mono}
@@ -33,30 +34,34 @@ by-value P k p (inf s) v = absurd v
 by-value P k p (fin true m e) v = absurd (true≢false (v .0))
 by-value P k p (fin false m e) v = p m e (omega (arith, v .1))
 
--- ---- between 0 and a whole number
+-- ---- what a comparison says
 
-below-or-level : (a b : ℕ) → T (ltb a b || (eqb a b && true)) → a ≤ b
-below-or-level a b t = elim (decLe a b) [ yes h ↦ h | no g ↦ absurd (rw (le-ltb a b (omega arith), ne-eqb a b (omega arith)) at t) ]
+pub refuted : (b : Bool) → (T b → ⊥) → b ≡ false
+refuted b h = is-false b (not-T b h)
 
-between-fin : (a b l n : ℕ) (d g : ℤ) (x : Float) → l * up d ≡ 0 * down d → n * up g ≡ b * down g → T (le (fin false l d) x) → T (le x (fin false n g)) → Bound a b x
-unfolding le
-between-fin a b l n d g nan lo hi p q = absurd p
-between-fin a b l n d g (inf true) lo hi p q = absurd p
-between-fin a b l n d g (inf false) lo hi p q = absurd q
-between-fin a b l n d g (fin true m e) lo hi p q =
-    let z = eqb→eq (l * up d * down e) (m * up e * down d) (and-l (eqb (l * up d * down e) (m * up e * down d)) (eqb (l * up d * down e) 0) p) in
-    le-of-mul-le-mul-right {k = down d} (omega (arith, z, ap (λ (k : ℕ). k * down e) lo)) (down-pos d)
-between-fin a b l n d g (fin false m e) lo hi p q =
-    let h = below-or-level (m * up e * down g) (n * up g * down e) q in
-    le-of-mul-le-mul-right {k = down g} (omega (arith, h, ap (λ (k : ℕ). k * down e) hi)) (down-pos g)
+pub at-most : (a b : ℕ) (s : Bool) → T (ltb a b || (eqb a b && s)) → a ≤ b
+at-most a b s t = elim (decLe a b) [ yes h ↦ h | no g ↦ absurd (rw (le-ltb a b (omega arith), ne-eqb a b (omega arith)) at t) ]
 
-between : (a b : ℕ) (x lo hi : Float) → HasValue lo false 0 1 → HasValue hi false b 1 → T (le lo x) → T (le x hi) → Bound a b x
-between a b x lo hi u v =
-    by-value (λ lo. T (le lo x) → T (le x hi) → Bound a b x) 0
-    (λ l d p. by-value (λ hi. T (le (fin false l d) x) → T (le x hi) → Bound a b x) b (λ n g q. between-fin a b l n d g x p q) hi v) lo u
+-- of what has a negative sign only -0 is at least 0
+pub minus-zero : (m : ℕ) (e : ℤ) → T (le (decimal 0 0) (fin true m e)) → m * up e ≡ 0
+unfolding le round
+minus-zero m e t = omega (arith, eqb→eq (0 * down e) (m * up e * 1) (and-l (eqb (0 * down e) (m * up e * 1)) (eqb (0 * down e) 0) t))
+
+between-fin : (a b n : ℕ) (d : ℤ) (x : Float) → n * up d ≡ b * down d → T (le (decimal 0 0) x) → T (le x (fin false n d)) → Bound a b x
+unfolding le round
+between-fin a b n d nan v p q = absurd p
+between-fin a b n d (inf true) v p q = absurd p
+between-fin a b n d (inf false) v p q = absurd q
+between-fin a b n d (fin true m e) v p q = omega (arith, minus-zero m e p)
+between-fin a b n d (fin false m e) v p q =
+    let h = at-most (m * up e * down d) (n * up d * down e) true q in
+    le-of-mul-le-mul-right {k = down d} (omega (arith, h, ap (λ (k : ℕ). k * down e) v)) (down-pos d)
+
+between : (a b : ℕ) (x y : Float) → HasValue y false b 1 → T (le (decimal 0 0) x) → T (le x y) → Bound a b x
+between a b x y v p = by-value (λ y. T (le x y) → Bound a b x) b (λ n d v. between-fin a b n d x v p) y v
 
 pub knob-bound : (x : Float) → T (le (decimal 0 0) x) → T (le x (decimal 1 0)) → Bound 0 1 x
-knob-bound x = between 0 1 x (decimal 0 0) (decimal 1 0) (round-whole binary32 false 0 zero-le) (round-whole binary32 false 1 (lit≤ tt))
+knob-bound x = between 0 1 x (decimal 1 0) (round-whole binary32 false 1 (lit≤ tt))
 
 -- ---- negation, and a rounded fraction
 
@@ -84,10 +89,15 @@ units-neg f q k = go (ltb (q * 2 ^ k) (2 ^ (low f + suc (emax f))))
 round-neg : (f : Format) (n c : ℕ) → round f true n c ≡ neg (round f false n c)
 round-neg f n c = round-is f true n c ∙ units-neg f (kept (prec f) (n * 2 ^ low f) c) (drop (prec f) (n * 2 ^ low f) c) ∙ ap neg (sym (round-is f false n c))
 
+zero-is : (f : Format) → round f false 0 1 ≡ decimal 0 0
+unfolding round
+zero-is binary32 = refl
+zero-is binary64 = refl
+
 round-plus : (f : Format) (a b n c : ℕ) → b ≤ 2 ^ prec f → 0 < c → n ≤ b * c → Bound a b (round f false n c)
 round-plus f a b n c B C h =
-    between a b (round f false n c) (round f false 0 1) (round f false b 1) (round-whole f false 0 zero-le) (round-whole f false b B)
-    (round-mono f 0 1 n c (lit< tt) C (omega arith)) (round-mono f n c b 1 C (lit< tt) (omega arith))
+    between a b (round f false n c) (round f false b 1) (round-whole f false b B)
+    (rw (zero-is f) at (round-mono f 0 1 n c (lit< tt) C (omega arith))) (round-mono f n c b 1 C (lit< tt) (omega arith))
 
 round-bound : (f : Format) (s : Bool) (a b n c : ℕ) → a ≤ 2 ^ prec f → b ≤ 2 ^ prec f → 0 < c → n ≤ cond s a b * c → Bound a b (round f s n c)
 round-bound f true a b n c A B C h = rw (round-neg f n c) (neg-bound b a (round f false n c) (round-plus f b a n c A C h))

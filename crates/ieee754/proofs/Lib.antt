@@ -1,5 +1,7 @@
+-- The laws that several modules, or other crates, use.
 pub mod Bounds
-pub mod Formats
-pub mod Numbers
 pub mod Fields
-pub mod Units
+mod Formats
+mod Numbers
+mod Units
+pub mod Whole

@@ -1,3 +1,2 @@
--- The laws of the conversions.
-mod Whole
+-- The laws of rounding.
 mod Rounding

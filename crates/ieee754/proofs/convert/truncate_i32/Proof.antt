@@ -9,7 +9,7 @@ use lib.Ieee.{ofBits, toSigned}
 use mir.Syntax.{w32}
 use mir.Val.{SFits, toZ}
 use mir.ValLaws.{toZ-pos, toZ-ofZ}
-use Rattle.ieee754.proofs.convert.Whole.{signed-plus, signed-minus}
+use Rattle.ieee754.proofs.Whole.{signed-plus, signed-minus}
 use Rattle.ieee754.proofs.convert.truncate_i32.Statement.{statement}
 use Rattle.ieee754.proofs.convert.truncate_i32.Tie as tie
 

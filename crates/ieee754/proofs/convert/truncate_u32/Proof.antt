@@ -2,7 +2,7 @@
 use borrow.Author.Needs.{needs}
 use native.Mathlib.Omega.{arith}
 use lib.Dec.{lit≤}
-use Rattle.ieee754.proofs.convert.Whole.{narrowed}
+use Rattle.ieee754.proofs.Whole.{narrowed}
 use Rattle.ieee754.proofs.convert.truncate_u32.Statement.{statement}
 use Rattle.ieee754.proofs.convert.truncate_u32.Tie as tie
 

@@ -8,7 +8,7 @@ use native.Mathlib.Omega.{arith}
 use lib.Dec.{T, lit≤}
 use lib.Ieee.{binary32, fits, isNan, toUnsigned}
 use Rattle.ieee754.proofs.Fields.{is-nan, no-nan, sign-bit}
-use Rattle.ieee754.proofs.convert.Whole.{of-minus, below-one, past-width, moved}
+use Rattle.ieee754.proofs.Whole.{of-minus, below-one, past-width, moved}
 use Rattle.ieee754.proofs.convert.truncate_u64.Statement.{statement}
 use Rattle.ieee754.proofs.convert.truncate_u64.Tie as tie
 

@@ -1,5 +1,6 @@
 // Conversions and operations of IEEE 754-2019 on `f32`, worked out from bit patterns. Each has a
-// result for every input.
+// result for every input. The contracts know one not-a-number: where a result is one, its pattern is
+// left open.
 mod convert;
 mod operations;
 mod pattern;

@@ -1,4 +1,4 @@
-// The square root.
+// The square root: that of the significand as a whole number, rounded.
 ghost use mathlib.Core.Path.{_≡_};
 ghost use Prim.Native.Nat.{ℕ, _+_, _*_, _^_, _≤_, _<_};
 ghost use lib.Ieee.{binary32};
@@ -39,6 +39,7 @@ fn rounded_root(place: u32, digits: u32) -> f32
     let e: Extracted = extract_root((digits as u64) << (23 + place % 2));
     let root: u64 = e.root;
     let rest: u64 = e.rest;
+    // the square of root + 1/2 is 1/4 above root * root + root
     if rest <= root {
         packed(place / 2, root as u32)
     } else {
@@ -46,8 +47,8 @@ fn rounded_root(place: u32, digits: u32) -> f32
     }
 }
 
-// The square root of x, rounded to the nearest; that of -0.0 is -0.0, and that of any other negative
-// number is no number.
+// The square root of x, rounded to the nearest (what that is, `Root.NearestRoot` says); that of -0.0
+// is -0.0, and that of any other negative number is no number.
 pub fn sqrt(x: f32) -> f32
     ensures { λ r. ⌜ r ≡ Root.sqrt binary32 x ⌝ }
 {

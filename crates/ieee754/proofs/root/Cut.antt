@@ -45,7 +45,7 @@ pub record Cut (f : Format) (a q k : ℕ) : Type 0 where
   pub below : q * 2 ^ k * (q * 2 ^ k) ≤ a * 2 ^ low f
   pub above : a * 2 ^ low f < suc q * 2 ^ k * (suc q * 2 ^ k)
 
--- the square of the point half way up, doubled
+-- twice the point half way to the next value, squared
 abbrev pub half² : ℕ → ℕ → ℕ
 half² q k = (2 * q + 1) * 2 ^ k * ((2 * q + 1) * 2 ^ k)
 

@@ -10,7 +10,7 @@ use lib.IntN.{pos, _+ℤ_, _-ℤ_, +ℤ-assoc, -ℤ-+ℤ-cancel, pos-+ℤ-pos}
 use lib.Ieee.{Float, nan, inf, fin, binary32, up, down, round, ofInt, toUnsigned, le, lt}
 use lib.Ieee.Fits.{down-pos, and-r, add-fits}
 use Rattle.ieee754.specs.Single.{_⊖_, _⊗_, decimal}
-use Rattle.ieee754.proofs.Range.{at-most, refuted}
+use Rattle.ieee754.proofs.Bounds.{at-most, refuted}
 use Rattle.refusal.specs.declared.Refusal.the-variants.{Pitch}
 use Rattle.units.specs.Tables.{«LUT_PITCH_RATIO_HIGH», «LUT_PITCH_RATIO_LOW»}
 use Rattle.units.specs.Units.{pitchOf, ratio, semitonesToRatio, number}

@@ -19,7 +19,7 @@ use lib.Ieee.Order.{le-of-values}
 use Rattle.ieee754.specs.Operations.{isSignMinus}
 use Rattle.ieee754.specs.Single.{_⊖_, _⊗_, decimal}
 use Rattle.ieee754.proofs.Whole.{unsigned-of-value, of-minus}
-use Rattle.ieee754.proofs.Range.{minus-zero}
+use Rattle.ieee754.proofs.Bounds.{minus-zero}
 use Rattle.units.specs.Accuracy.{floor256}
 use Rattle.units.proofs.Values.{less-whole, product, exact, minus-less, minus-times}
 

@@ -1,0 +1,31 @@
+-- `analog_snare_drum::AnalogSnareDrum::noise_output` meets its contract. Assumes nothing.
+use borrow.Author.Needs.{needs}
+use lib.Ieee.{round, ofBits}
+use Rattle.analog_snare_drum.specs.AnalogSnareDrum.{noiseOutput}
+use Rattle.analog_snare_drum.proofs.AnalogSnareDrum.noise_output.Statement.{statement}
+use Rattle.analog_snare_drum.proofs.AnalogSnareDrum.noise_output.Tie as tie
+
+get-float-requires : tie.Need-get-float-requires
+get-float-requires c κs = search needs
+
+not-negative-requires : tie.Need-not-negative-requires
+not-negative-requires c κs = search needs
+
+process-requires : tie.Need-process-requires
+process-requires c κs = search needs
+
+returns : tie.Need-returns
+unfolding noiseOutput round ofBits
+returns c =
+    let c₁ = c .before in
+    let c₂ = c₁ .before .before .before .before in
+    let c₃ = c₂ .before .before in
+    rw (
+      c₁ .process .ensures,
+      c₂ .not-negative .ensures,
+      c₃ .get-float .ensures,
+    )
+
+pub noise-output-spec : {M : Type 1} → statement M
+noise-output-spec =
+    tie.close (tie.spec get-float-requires not-negative-requires process-requires returns)

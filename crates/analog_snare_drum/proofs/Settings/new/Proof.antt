@@ -1,0 +1,57 @@
+-- `analog_snare_drum::Settings::new` meets its contract. Assumes nothing.
+use borrow.Author.Needs.{needs}
+use lib.Ieee.{round, ofBits}
+use Rattle.analog_snare_drum.proofs.Laws.{q-pitch, noise-pitch}
+use Rattle.analog_snare_drum.specs.AnalogSnareDrum.{settings}
+use Rattle.analog_snare_drum.proofs.Settings.new.Statement.{statement}
+use Rattle.analog_snare_drum.proofs.Settings.new.Tie as tie
+
+semitones-to-ratio-requires : tie.Need-semitones-to-ratio-requires
+semitones-to-ratio-requires c κs = search needs
+
+unwrap-or-requires : tie.Need-unwrap-or-requires
+unwrap-or-requires c κs = search needs
+
+semitones-to-ratio-requires-2 : tie.Need-semitones-to-ratio-requires-2
+semitones-to-ratio-requires-2 c κs = search needs
+
+unwrap-or-requires-2 : tie.Need-unwrap-or-requires-2
+unwrap-or-requires-2 c κs = search needs
+
+gains-requires : tie.Need-gains-requires
+gains-requires c κs = search needs
+
+clamp-requires : tie.Need-clamp-requires
+clamp-requires c κs = search needs
+
+returns : tie.Need-returns
+unfolding settings round ofBits
+returns c =
+    let c₁ = c .before in
+    let c₂ = c₁ .before in
+    let c₃ = c₂ .before in
+    let c₄ = c₃ .before in
+    let c₅ = c₄ .before in
+    let s = c₅ .before in
+    rw (
+      c .clamp .ensures,
+      c₁ .gains .ensures,
+      c₂ .unwrap-or2 .ensures,
+      c₃ .semitones-to-ratio2 .ensures .exact,
+      noise-pitch (s .args .decay) (s .args .snappy) (s .pre .0) (s .pre .1),
+      c₄ .unwrap-or .ensures,
+      c₅ .semitones-to-ratio .ensures .exact,
+      q-pitch (s .args .decay) (s .pre .0),
+    )
+
+pub new-spec : {M : Type 1} → statement M
+new-spec =
+    tie.close
+    (tie.spec
+    semitones-to-ratio-requires
+    unwrap-or-requires
+    semitones-to-ratio-requires-2
+    unwrap-or-requires-2
+    gains-requires
+    clamp-requires
+    returns)

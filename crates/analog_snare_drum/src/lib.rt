@@ -1,0 +1,394 @@
+// drums/analog_snare_drum.rs: 808 snare drum model, without its sustain mode.
+ghost use mathlib.Core.Path.{_≡_};
+ghost use lib.ListN.{length};
+ghost use Rattle.refusal.specs.Refusal.{answerNumber, KnobIn};
+ghost use Rattle.block.specs.Block.{samples, after};
+ghost use Rattle.analog_snare_drum.specs.AnalogSnareDrum as spec;
+use filter::FilterMode;
+use filter::FrequencyApproximation;
+use filter::Svf;
+use refusal::Answer;
+use refusal::Refusal;
+use trigger_pulse::TriggerPulse;
+
+const MODE_FREQUENCIES: [f32; 5] = [1.00, 2.00, 3.18, 4.16, 5.62];
+
+pub struct AnalogSnareDrum {
+    pub pulse_remaining_samples: u32,
+    pub pulse: f32,
+    pub pulse_height: f32,
+    pub pulse_lp: f32,
+    pub noise_envelope: f32,
+    pub resonator: [Svf; 5],
+    pub noise_filter: Svf,
+    pub trigger_pulse_duration: u32,
+    pub pulse_decay_time: u32,
+}
+
+// What `init` answers, and the voice after it.
+pub struct Answered {
+    pub answer: Answer,
+    pub voice: AnalogSnareDrum,
+}
+
+// What `render` answers, and the voice and the noise state after it.
+pub struct Rendered {
+    pub answer: Answer,
+    pub voice: AnalogSnareDrum,
+    pub noise: u32,
+}
+
+// What the knobs set for a block.
+struct Settings {
+    q: f32,
+    noise_envelope_decay: f32,
+    exciter_leak: f32,
+    snappy: f32,
+    gain: [f32; 5],
+}
+
+// What the loop goes on from: a voice and the noise state beside it.
+struct Sounding {
+    voice: AnalogSnareDrum,
+    noise: u32,
+}
+
+// The voice and the noise state after one sample, and the sample.
+struct Step {
+    voice: AnalogSnareDrum,
+    noise: u32,
+    sample: f32,
+}
+
+// A resonator after one sample, and the shell with its part.
+struct ModeOutput {
+    resonator: Svf,
+    shell: f32,
+}
+
+// The resonators after one sample, and the shell that they make.
+struct ShellOutput {
+    resonator: [Svf; 5],
+    shell: f32,
+}
+
+// The noise state, the envelope and the filter after one sample, and the noise that they make.
+struct NoiseOutput {
+    state: u32,
+    noise_envelope: f32,
+    noise_filter: Svf,
+    noise: f32,
+}
+
+impl AnalogSnareDrum {
+    pub fn init(self, sample_rate_hz: f32) -> Answered
+        ensures answer { λ r. ⌜ answerNumber (r .answer) ≡ spec.initRefusal «sample_rate_hz» ⌝ }
+        ensures voice { λ r. ⌜ r .voice ≡ spec.init self «sample_rate_hz» ⌝ }
+    {
+        let answer = refusal::ask(
+            refusal::is_sample_rate(sample_rate_hz),
+            Refusal::SampleRate,
+            Answer::Accepted,
+        );
+        match answer {
+            Answer::Refused(_) => Answered {
+                answer,
+                voice: self,
+            },
+            Answer::Accepted => {
+                let voice = self.initialized(sample_rate_hz);
+                Answered { answer, voice }
+            }
+        }
+    }
+
+    fn initialized(self, sample_rate_hz: f32) -> Self
+        ensures { λ r. ⌜ r ≡ spec.initialized self «sample_rate_hz» ⌝ }
+    {
+        let old = self.resonator;
+        let r0 = Svf::init(old[0]);
+        let r1 = Svf::init(old[1]);
+        let r2 = Svf::init(old[2]);
+        let r3 = Svf::init(old[3]);
+        let r4 = Svf::init(old[4]);
+        let resonator = [r0, r1, r2, r3, r4];
+        let noise_filter = self.noise_filter.init();
+        AnalogSnareDrum {
+            pulse_remaining_samples: 0,
+            pulse: 0.0,
+            pulse_height: 0.0,
+            pulse_lp: 0.0,
+            noise_envelope: 0.0,
+            resonator,
+            noise_filter,
+            trigger_pulse_duration: ieee754::truncate_u32(1.0e-3 * sample_rate_hz),
+            pulse_decay_time: ieee754::truncate_u32(0.1e-3 * sample_rate_hz),
+        }
+    }
+
+    pub fn render(
+        self,
+        noise: u32,
+        trigger: bool,
+        accent: f32,
+        f0: f32,
+        tone: f32,
+        decay: f32,
+        snappy: f32,
+        out: &mut [f32],
+    ) -> Rendered
+        ensures answer { λ r. ⌜ answerNumber (r .answer) ≡ spec.renderRefusal (length (now (out .entry))) accent f0 tone decay snappy ⌝ }
+        ensures voice { λ r. ⌜ r .voice ≡ spec.render self noise trigger accent f0 tone decay snappy (length (now (out .entry))) .voice ⌝ }
+        ensures state { λ r. ⌜ r .noise ≡ spec.render self noise trigger accent f0 tone decay snappy (length (now (out .entry))) .noise ⌝ }
+        ensures block { λ _. ⌜ now (out .exit) ≡ spec.renderOut self noise trigger accent f0 tone decay snappy (now (out .entry)) ⌝ }
+    {
+        let answer = asked(out.len(), accent, f0, tone, decay, snappy);
+        match answer {
+            Answer::Refused(_) => Rendered {
+                answer,
+                voice: self,
+                noise,
+            },
+            Answer::Accepted => {
+                let settings = Settings::new(tone, decay, snappy);
+                let sounding = self.triggered(trigger, accent)
+                    .tuned(f0, settings.q)
+                    .run(noise, settings, out);
+                let voice = sounding.voice;
+                Rendered {
+                    answer,
+                    voice,
+                    noise: sounding.noise,
+                }
+            }
+        }
+    }
+
+    fn triggered(mut self, trigger: bool, accent: f32) -> Self
+        ensures { λ r. ⌜ r ≡ spec.triggered self trigger accent ⌝ }
+    {
+        if !trigger {
+            return self;
+        }
+        self.pulse_remaining_samples = self.trigger_pulse_duration;
+        self.pulse_height = 3.0 + 7.0 * accent;
+        self.noise_envelope = 2.0;
+        self
+    }
+
+    fn tuned(mut self, f0: f32, q: f32) -> Self
+        ensures { λ r. ⌜ r ≡ spec.tuned self f0 q ⌝ }
+    {
+        let old = self.resonator;
+        let resonator = tuned_modes(old, f0, q);
+        let f_noise = ieee754::clamp(f0 * 16.0, 0.0, 0.499);
+        let noise_filter = self.noise_filter
+            .set_f_q(f_noise, 1.0 + f_noise * 1.5, FrequencyApproximation::Fast);
+        self.resonator = resonator;
+        self.noise_filter = noise_filter;
+        self
+    }
+
+    // The loop over the block.
+    fn run(self, noise: u32, settings: Settings, out: &mut [f32]) -> Sounding
+        ensures state { λ r. ⌜ r ≡ after (spec.turn settings) (length (now (out .entry))) (spec.sounding self noise) ⌝ }
+        ensures block { λ _. ⌜ now (out .exit) ≡ samples (spec.turn settings) (length (now (out .entry))) (spec.sounding self noise) ⌝ }
+    {
+        let mut voice = self;
+        let mut state = noise;
+        let mut i = 0;
+        while i < out.len() {
+            let s = voice.step(state, settings);
+            voice = s.voice;
+            state = s.noise;
+            out[i] = s.sample;
+            i += 1;
+        }
+        Sounding {
+            voice,
+            noise: state,
+        }
+    }
+
+    // One turn of the loop.
+    fn step(self, noise: u32, settings: Settings) -> Step
+        ensures { λ r. ⌜ r ≡ spec.step settings self noise ⌝ }
+    {
+        // Q45 / Q46
+        let trigger_pulse = TriggerPulse {
+            remaining_samples: self.pulse_remaining_samples,
+            pulse: self.pulse,
+        };
+        let decay_time = ieee754::nearest_f32(self.pulse_decay_time);
+        let p = trigger_pulse.next(self.pulse_height, decay_time);
+        let pulse_lp = utils::one_pole(self.pulse_lp, p.pulse, 0.75);
+        let s = self.shell_output(settings, p.pulse, pulse_lp);
+        let n = self.noise_output(settings, noise);
+        let resonator = s.resonator;
+        let noise_filter = n.noise_filter;
+        let voice = AnalogSnareDrum {
+            pulse_remaining_samples: p.remaining_samples,
+            pulse: p.pulse,
+            pulse_height: self.pulse_height,
+            pulse_lp,
+            noise_envelope: n.noise_envelope,
+            resonator,
+            noise_filter,
+            trigger_pulse_duration: self.trigger_pulse_duration,
+            pulse_decay_time: self.pulse_decay_time,
+        };
+        Step {
+            voice,
+            noise: n.state,
+            // IC13
+            sample: n.noise + s.shell * (1.0 - settings.snappy),
+        }
+    }
+
+    // R189 / C57 / R190 + C58 / C59 / R197 / R196 / IC14
+    fn shell_output(self, settings: Settings, pulse: f32, pulse_lp: f32) -> ShellOutput
+        ensures { λ r. ⌜ r ≡ spec.shellOutput settings (self .resonator) pulse «pulse_lp» ⌝ }
+    {
+        let old = self.resonator;
+        let gain = settings.gain;
+        let leak = settings.exciter_leak;
+        let first = (pulse - pulse_lp) + 0.006 * pulse;
+        let other = 0.026 * pulse;
+        let m0 = mode_output(old[0], first, leak, gain[0], 0.0);
+        let m1 = mode_output(old[1], other, leak, gain[1], m0.shell);
+        let m2 = mode_output(old[2], other, leak, gain[2], m1.shell);
+        let m3 = mode_output(old[3], other, leak, gain[3], m2.shell);
+        let m4 = mode_output(old[4], other, leak, gain[4], m3.shell);
+        let r0 = m0.resonator;
+        let r1 = m1.resonator;
+        let r2 = m2.resonator;
+        let r3 = m3.resonator;
+        let r4 = m4.resonator;
+        let resonator = [r0, r1, r2, r3, r4];
+        ShellOutput {
+            resonator,
+            shell: utils::soft_clip(m4.shell),
+        }
+    }
+
+    // C56 / R194 / Q48 / C54 / R188 / D54, and the filter C66 / R201 / C67 / R202 / R203 / Q49
+    fn noise_output(self, settings: Settings, state: u32) -> NoiseOutput
+        ensures { λ r. ⌜ r ≡ spec.noiseOutput settings (self .«noise_envelope») (self .«noise_filter») state ⌝ }
+    {
+        let draw = random::get_float(state);
+        let noise = not_negative(2.0 * draw.value - 1.0);
+        let noise_envelope = self.noise_envelope * settings.noise_envelope_decay;
+        let o = self.noise_filter.process(
+            noise * (noise_envelope * settings.snappy * 2.0),
+            FilterMode::BandPass,
+        );
+        let noise_filter = o.filter;
+        NoiseOutput {
+            state: draw.word,
+            noise_envelope,
+            noise_filter,
+            noise: o.out,
+        }
+    }
+}
+
+// One turn of the loop over the modes.
+fn mode_output(
+    resonator: Svf,
+    excitation: f32,
+    exciter_leak: f32,
+    gain: f32,
+    shell: f32,
+) -> ModeOutput
+    ensures { λ r. ⌜ r ≡ spec.modeOutput resonator excitation «exciter_leak» gain shell ⌝ }
+{
+    let o = resonator.process(excitation, FilterMode::BandPass);
+    let next = o.filter;
+    ModeOutput {
+        resonator: next,
+        shell: shell + gain * (o.out + excitation * exciter_leak),
+    }
+}
+
+fn not_negative(noise: f32) -> f32
+    ensures { λ r. ⌜ r ≡ spec.notNegative noise ⌝ }
+{
+    if noise < 0.0 { 0.0 } else { noise }
+}
+
+// Each resonator set to its mode.
+fn tuned_modes(old: [Svf; 5], f0: f32, q: f32) -> [Svf; 5]
+    ensures { λ r. ⌜ r ≡ spec.tunedModes old f0 q ⌝ }
+{
+    let r0 = tuned_mode(old[0], f0, MODE_FREQUENCIES[0], q);
+    let r1 = tuned_mode(old[1], f0, MODE_FREQUENCIES[1], q * 0.25);
+    let r2 = tuned_mode(old[2], f0, MODE_FREQUENCIES[2], q * 0.25);
+    let r3 = tuned_mode(old[3], f0, MODE_FREQUENCIES[3], q * 0.25);
+    let r4 = tuned_mode(old[4], f0, MODE_FREQUENCIES[4], q * 0.25);
+    [r0, r1, r2, r3, r4]
+}
+
+fn tuned_mode(resonator: Svf, f0: f32, mode_frequency: f32, q: f32) -> Svf
+    ensures { λ r. ⌜ r ≡ spec.tunedMode resonator f0 «mode_frequency» q ⌝ }
+{
+    let f = ieee754::minimum_number(f0 * mode_frequency, 0.499);
+    resonator.set_f_q(f, 1.0 + f * q, FrequencyApproximation::Fast)
+}
+
+// The questions of `render`, in the order of their numbers.
+fn asked(samples: usize, accent: f32, f0: f32, tone: f32, decay: f32, snappy: f32) -> Answer
+    ensures { λ r. ⌜ answerNumber r ≡ spec.renderRefusal samples accent f0 tone decay snappy ⌝ }
+{
+    let last = refusal::ask(refusal::is_unit(snappy), Refusal::Knob, Answer::Accepted);
+    let decays = refusal::ask(refusal::is_unit(decay), Refusal::Knob, last);
+    let knobs = refusal::ask(refusal::is_unit(tone), Refusal::Knob, decays);
+    let fourth = refusal::ask(refusal::is_unit(accent), Refusal::Accent, knobs);
+    let third = refusal::ask(refusal::is_frequency(f0), Refusal::Frequency, fourth);
+    refusal::ask(
+        refusal::is_block_length(samples),
+        Refusal::BlockLength,
+        third,
+    )
+}
+
+impl Settings {
+    // Both pitches lie in the tables, so neither ratio is replaced. Decay and leak take the knob `snappy` as it is, the loop takes it clamped.
+    fn new(tone: f32, decay: f32, snappy: f32) -> Self
+        requires { ⌜ KnobIn decay × KnobIn snappy ⌝ }
+        ensures { λ r. ⌜ r ≡ spec.settings tone decay snappy ⌝ }
+    {
+        let decay_xt = decay * (1.0 + decay * (decay - 1.0));
+        let q_ratio = units::semitones_to_ratio(decay_xt * 84.0).unwrap_or(0.0);
+        let noise_ratio = units::semitones_to_ratio(-decay * (50.0 + snappy * 10.0)).unwrap_or(0.0);
+        let gain = gains(tone);
+        Settings {
+            q: 2000.0 * q_ratio,
+            noise_envelope_decay: 1.0 - 0.0017 * noise_ratio,
+            exciter_leak: snappy * (2.0 - snappy) * 0.1,
+            snappy: ieee754::clamp(snappy * 1.1 - 0.05, 0.0, 1.0),
+            gain,
+        }
+    }
+}
+
+// The part of each mode in the shell.
+fn gains(tone: f32) -> [f32; 5]
+    ensures { λ r. ⌜ r ≡ spec.gains tone ⌝ }
+{
+    if tone < 0.666667 {
+        // 808-style (2 modes)
+        let t = tone * 1.5;
+        return [
+            1.5 + (1.0 - t) * (1.0 - t) * 4.5,
+            2.0 * t + 0.15,
+            0.0,
+            0.0,
+            0.0,
+        ];
+    }
+    // What the 808 could have been if there were extra modes!
+    let t = (tone - 0.666667) * 3.0;
+    let t2 = t * t;
+    let t4 = t2 * t2;
+    [1.5 - t * 0.5, 2.15 - t * 0.7, t, t2, t4]
+}

@@ -25,10 +25,11 @@ use Rattle.analog_snare_drum.specs.declared.ModeOutput.{ModeOutput}
 use Rattle.analog_snare_drum.specs.declared.ShellOutput.{ShellOutput}
 use Rattle.analog_snare_drum.specs.declared.NoiseOutput.{NoiseOutput}
 
--- `for i in 0..NUM_MODES`, and the filter of the mode i: a list of five has one at each of these places
+-- `for i in 0..NUM_MODES`: an entry for each mode
 abbrev pub modes : {A : Type 0} → (ℕ → A) → List A
 modes f = f 0 ∷ f 1 ∷ f 2 ∷ f 3 ∷ f 4 ∷ []
 
+-- `self.resonator[i]`; what stands in for a filter past the end is not read, since the list has five
 abbrev pub filterOf : List Svf → ℕ → Svf
 filterOf resonator i = getD resonator i (record { g = nan; r = nan; h = nan; state_1 = nan; state_2 = nan })
 
@@ -57,28 +58,28 @@ init v sampleRateHz = unlessRefused (initRefusal sampleRateHz) (initialized v sa
 
 -- ---- the lines of `render` before its loop
 
--- the Rust squares `tone` after each mode from the third on
+-- from the third mode on, `*v = tone; tone *= tone;`: the tone, its square and the square of that
 unfoldable pub gains : Float → List Float
 gains tone =
-    let t = tone ⊗ decimal 15 1 in
-    let u = (tone ⊖ decimal 666667 6) ⊗ decimal 3 0 in
-    let u² = u ⊗ u in
-    let u⁴ = u² ⊗ u² in
     cond (lt tone (decimal 666667 6))
-    (decimal 15 1 ⊕ (decimal 1 0 ⊖ t) ⊗ (decimal 1 0 ⊖ t) ⊗ decimal 45 1
+    (let t = tone ⊗ decimal 15 1 in
+    decimal 15 1 ⊕ (decimal 1 0 ⊖ t) ⊗ (decimal 1 0 ⊖ t) ⊗ decimal 45 1
     ∷ decimal 2 0 ⊗ t ⊕ decimal 15 2
     ∷ decimal 0 0
     ∷ decimal 0 0
     ∷ decimal 0 0
     ∷ [])
-    (decimal 15 1 ⊖ u ⊗ decimal 5 1
-    ∷ decimal 215 2 ⊖ u ⊗ decimal 7 1
-    ∷ u
-    ∷ u²
-    ∷ u⁴
+    (let t = (tone ⊖ decimal 666667 6) ⊗ decimal 3 0 in
+    let t² = t ⊗ t in
+    let t⁴ = t² ⊗ t² in
+    decimal 15 1 ⊖ t ⊗ decimal 5 1
+    ∷ decimal 215 2 ⊖ t ⊗ decimal 7 1
+    ∷ t
+    ∷ t²
+    ∷ t⁴
     ∷ [])
 
--- `snappy` is clamped after the decay and the leak have been worked out
+-- `snappy` is clamped once the decay and the leak have been worked out from the knob itself
 unfoldable pub settings : Float → Float → Float → Settings
 settings tone decay snappy =
     let decayXt = decay ⊗ (decimal 1 0 ⊕ decay ⊗ (decay ⊖ decimal 1 0)) in
@@ -138,21 +139,21 @@ tuned v f0 q =
 
 -- ---- one turn of the loop
 
--- `if i == 0 { (pulse - self.pulse_lp) + 0.006 * pulse } else { 0.026 * pulse }`
-abbrev pub excitationOf : Float → Float → ℕ → Float
-excitationOf pulse pulseLp zero = pulse ⊖ pulseLp ⊕ decimal 6 3 ⊗ pulse
-excitationOf pulse pulseLp (suc i) = decimal 26 3 ⊗ pulse
-
-unfoldable pub modeOutput : Svf → Float → Float → Float → Float → ModeOutput
-modeOutput resonator excitation exciterLeak gain shell =
+unfoldable pub modeOutput : Float → Float → Svf → Float → Float → ModeOutput
+modeOutput shell gain resonator excitation exciterLeak =
     let o = Filter.process resonator excitation BandPass in
     record { resonator = o .filter; shell = shell ⊕ gain ⊗ (o .out ⊕ excitation ⊗ exciterLeak) }
 
--- from 0.0, each mode adds its part to the shell
+-- the excitation of the mode i: `if i == 0 { first } else { other }`
+abbrev pub excitationOf : Float → Float → ℕ → Float
+excitationOf first other zero = first
+excitationOf first other (suc i) = other
+
+-- `let mut shell = 0.0;`, and each mode adds its part
 unfoldable pub shellOutput : Settings → List Svf → Float → Float → ShellOutput
-shellOutput s resonator pulse pulseLp =
+shellOutput s resonator first other =
     let mode : ℕ → Float → ModeOutput =
-    (λ i shell. modeOutput (filterOf resonator i) (excitationOf pulse pulseLp i) (s .«exciter_leak») (getD (s .gain) i nan) shell) in
+    (λ i shell. modeOutput shell (getD (s .gain) i nan) (filterOf resonator i) (excitationOf first other i) (s .«exciter_leak»)) in
     let m₀ = mode 0 (decimal 0 0) in
     let m₁ = mode 1 (m₀ .shell) in
     let m₂ = mode 2 (m₁ .shell) in
@@ -175,13 +176,14 @@ noiseOutput s noiseEnvelope noiseFilter state =
 unfoldable pub step : Settings → AnalogSnareDrum → ℕ → Step
 step s v noise =
     let p = TriggerPulse.next (v .«pulse_remaining_samples») (v .pulse) (v .«pulse_height») (ofInt binary32 (pos (v .«pulse_decay_time»))) in
-    let pulseLp = onePole (v .«pulse_lp») (p .pulse) (decimal 75 2) in
-    let shell = shellOutput s (v .resonator) (p .pulse) pulseLp in
+    let pulse = p .pulse in
+    let pulseLp = onePole (v .«pulse_lp») pulse (decimal 75 2) in
+    let shell = shellOutput s (v .resonator) (pulse ⊖ pulseLp ⊕ decimal 6 3 ⊗ pulse) (decimal 26 3 ⊗ pulse) in
     let n = noiseOutput s (v .«noise_envelope») (v .«noise_filter») noise in
     record {
       voice = record {
         «pulse_remaining_samples» = p .«remaining_samples»;
-        pulse = p .pulse;
+        pulse = pulse;
         «pulse_height» = v .«pulse_height»;
         «pulse_lp» = pulseLp;
         «noise_envelope» = n .«noise_envelope»;
@@ -198,7 +200,7 @@ abbrev pub sounding : AnalogSnareDrum → ℕ → Sounding
 sounding v noise = record { voice = v; noise = noise }
 
 abbrev pub turn : Settings → Sounding → Turn Sounding
-turn s now = let o = step s (now .voice) (now .noise) in record { sample = o .sample; next = sounding (o .voice) (o .noise) }
+turn s state = let o = step s (state .voice) (state .noise) in record { sample = o .sample; next = sounding (o .voice) (o .noise) }
 
 -- ---- render
 

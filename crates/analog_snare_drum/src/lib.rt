@@ -221,14 +221,19 @@ impl AnalogSnareDrum {
         };
         let decay_time = ieee754::nearest_f32(self.pulse_decay_time);
         let p = trigger_pulse.next(self.pulse_height, decay_time);
-        let pulse_lp = utils::one_pole(self.pulse_lp, p.pulse, 0.75);
-        let s = self.shell_output(settings, p.pulse, pulse_lp);
+        let pulse = p.pulse;
+
+        // R189 / C57 / R190 + C58 / C59 / R197 / R196 / IC14
+        let pulse_lp = utils::one_pole(self.pulse_lp, pulse, 0.75);
+        let first = (pulse - pulse_lp) + 0.006 * pulse;
+        let other = 0.026 * pulse;
+        let s = self.shell_output(settings, first, other);
         let n = self.noise_output(settings, noise);
         let resonator = s.resonator;
         let noise_filter = n.noise_filter;
         let voice = AnalogSnareDrum {
             pulse_remaining_samples: p.remaining_samples,
-            pulse: p.pulse,
+            pulse,
             pulse_height: self.pulse_height,
             pulse_lp,
             noise_envelope: n.noise_envelope,
@@ -245,20 +250,18 @@ impl AnalogSnareDrum {
         }
     }
 
-    // R189 / C57 / R190 + C58 / C59 / R197 / R196 / IC14
-    fn shell_output(self, settings: Settings, pulse: f32, pulse_lp: f32) -> ShellOutput
-        ensures { λ r. ⌜ r ≡ spec.shellOutput settings (self .resonator) pulse «pulse_lp» ⌝ }
+    // The resonators under the excitation of the first mode and that of the others.
+    fn shell_output(self, settings: Settings, first: f32, other: f32) -> ShellOutput
+        ensures { λ r. ⌜ r ≡ spec.shellOutput settings (self .resonator) first other ⌝ }
     {
         let old = self.resonator;
         let gain = settings.gain;
         let leak = settings.exciter_leak;
-        let first = (pulse - pulse_lp) + 0.006 * pulse;
-        let other = 0.026 * pulse;
-        let m0 = mode_output(old[0], first, leak, gain[0], 0.0);
-        let m1 = mode_output(old[1], other, leak, gain[1], m0.shell);
-        let m2 = mode_output(old[2], other, leak, gain[2], m1.shell);
-        let m3 = mode_output(old[3], other, leak, gain[3], m2.shell);
-        let m4 = mode_output(old[4], other, leak, gain[4], m3.shell);
+        let m0 = mode_output(0.0, gain[0], old[0], first, leak);
+        let m1 = mode_output(m0.shell, gain[1], old[1], other, leak);
+        let m2 = mode_output(m1.shell, gain[2], old[2], other, leak);
+        let m3 = mode_output(m2.shell, gain[3], old[3], other, leak);
+        let m4 = mode_output(m3.shell, gain[4], old[4], other, leak);
         let r0 = m0.resonator;
         let r1 = m1.resonator;
         let r2 = m2.resonator;
@@ -294,13 +297,13 @@ impl AnalogSnareDrum {
 
 // One turn of the loop over the modes.
 fn mode_output(
+    shell: f32,
+    gain: f32,
     resonator: Svf,
     excitation: f32,
     exciter_leak: f32,
-    gain: f32,
-    shell: f32,
 ) -> ModeOutput
-    ensures { λ r. ⌜ r ≡ spec.modeOutput resonator excitation «exciter_leak» gain shell ⌝ }
+    ensures { λ r. ⌜ r ≡ spec.modeOutput shell gain resonator excitation «exciter_leak» ⌝ }
 {
     let o = resonator.process(excitation, FilterMode::BandPass);
     let next = o.filter;

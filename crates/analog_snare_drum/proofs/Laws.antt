@@ -29,8 +29,7 @@ decay-xt : (x : Float) → Bound 0 1 x → Bound 0 1 (x ⊗ (decimal 1 0 ⊕ x �
 decay-xt x h =
     let one = round-whole binary32 false 1 (omega arith) in
     let below = minus-whole binary32 1 (omega arith) x (decimal 1 0) h one in
-    let product =
-    mul-bound binary32 0 1 1 0 1 0 (omega arith) (omega arith) (omega arith) (omega arith) (omega arith) (omega arith) x (x ⊖ decimal 1 0) h below in
+    let product = mul-bound binary32 0 1 1 0 1 0 (omega arith) (omega arith) (omega arith) (omega arith) (omega arith) (omega arith) x (x ⊖ decimal 1 0) h below in
     mul-bound binary32 0 1 0 1 0 1 (omega arith) (omega arith) (omega arith) (omega arith) (omega arith) (omega arith)
     x _ h (plus-whole binary32 1 (omega arith) (decimal 1 0) (x ⊗ (x ⊖ decimal 1 0)) one product)
 

@@ -176,6 +176,7 @@ impl AnalogSnareDrum {
         self
     }
 
+    // The six filters set to their frequencies.
     fn tuned(mut self, f0: f32, q: f32) -> Self
         ensures { λ r. ⌜ r ≡ spec.tuned self f0 q ⌝ }
     {
@@ -319,7 +320,6 @@ fn not_negative(noise: f32) -> f32
     if noise < 0.0 { 0.0 } else { noise }
 }
 
-// Each resonator set to its mode.
 fn tuned_modes(old: [Svf; 5], f0: f32, q: f32) -> [Svf; 5]
     ensures { λ r. ⌜ r ≡ spec.tunedModes old f0 q ⌝ }
 {

@@ -1,0 +1,60 @@
+-- `synthetic_snare_drum::Settings::new` meets its contract. Assumes nothing.
+use borrow.Author.Needs.{needs}
+use lib.Ieee.{round, ofBits}
+use Rattle.synthetic_snare_drum.proofs.Laws.{drum-ratio, snare-ratio}
+use Rattle.synthetic_snare_drum.specs.SyntheticSnareDrum.{settings}
+use Rattle.synthetic_snare_drum.proofs.Settings.new.Statement.{statement}
+use Rattle.synthetic_snare_drum.proofs.Settings.new.Tie as tie
+
+semitones-to-ratio-requires : tie.Need-semitones-to-ratio-requires
+semitones-to-ratio-requires c κs = search needs
+
+unwrap-or-requires : tie.Need-unwrap-or-requires
+unwrap-or-requires c κs = search needs
+
+semitones-to-ratio-requires-2 : tie.Need-semitones-to-ratio-requires-2
+semitones-to-ratio-requires-2 c κs = search needs
+
+unwrap-or-requires-2 : tie.Need-unwrap-or-requires-2
+unwrap-or-requires-2 c κs = search needs
+
+clamp-requires : tie.Need-clamp-requires
+clamp-requires c κs = search needs
+
+sqrt-requires : tie.Need-sqrt-requires
+sqrt-requires c κs = search needs
+
+sqrt-requires-2 : tie.Need-sqrt-requires-2
+sqrt-requires-2 c κs = search needs
+
+returns : tie.Need-returns
+unfolding settings round ofBits
+returns c =
+    let c₂ = c .before .before .before in
+    let c₁ = c₂ .before .before in
+    let s = c₁ .before .before in
+    let a = s .args in
+    rw (
+      c .sqrt2 .ensures,
+      c .before .sqrt .ensures,
+      c .before .before .clamp .ensures,
+      c₂ .unwrap-or2 .ensures,
+      c₂ .before .semitones-to-ratio2 .ensures .exact,
+      snare-ratio (a .fm-amount) (a .decay) (a .snappy) _ (s .pre),
+      c₁ .unwrap-or .ensures,
+      c₁ .before .semitones-to-ratio .ensures .exact,
+      drum-ratio (a .fm-amount) (a .decay) (a .snappy) _ (s .pre),
+    )
+
+pub new-spec : {M : Type 1} → statement M
+new-spec =
+    tie.close
+    (tie.spec
+    semitones-to-ratio-requires
+    unwrap-or-requires
+    semitones-to-ratio-requires-2
+    unwrap-or-requires-2
+    clamp-requires
+    sqrt-requires
+    sqrt-requires-2
+    returns)

@@ -1,0 +1,19 @@
+-- `synthetic_snare_drum::distorted_sine` meets its contract. Assumes nothing.
+use borrow.Author.Needs.{needs}
+use lib.Ieee.{round, ofBits}
+use Rattle.synthetic_snare_drum.specs.SyntheticSnareDrum.{distortedSine}
+use Rattle.synthetic_snare_drum.proofs.distorted_sine.Statement.{statement}
+use Rattle.synthetic_snare_drum.proofs.distorted_sine.Tie as tie
+
+folded-requires : tie.Need-folded-requires
+folded-requires c κs = search needs
+
+abs-requires : tie.Need-abs-requires
+abs-requires c κs = search needs
+
+returns : tie.Need-returns
+unfolding distortedSine round ofBits
+returns c = rw (c .abs .ensures, c .before .folded .ensures)
+
+pub distorted-sine-spec : {M : Type 1} → statement M
+distorted-sine-spec = tie.close (tie.spec folded-requires abs-requires returns)

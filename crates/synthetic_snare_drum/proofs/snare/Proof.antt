@@ -1,0 +1,21 @@
+-- `synthetic_snare_drum::snare` meets its contract. Assumes nothing.
+use borrow.Author.Needs.{needs}
+use lib.Ieee.{round, ofBits}
+use Rattle.synthetic_snare_drum.specs.SyntheticSnareDrum.{snare}
+use Rattle.synthetic_snare_drum.proofs.snare.Statement.{statement}
+use Rattle.synthetic_snare_drum.proofs.snare.Tie as tie
+
+process-requires : tie.Need-process-requires
+process-requires c κs = search needs
+
+process-requires-2 : tie.Need-process-requires-2
+process-requires-2 c κs = search needs
+
+returns : tie.Need-returns
+unfolding snare round ofBits
+returns c =
+    let s = c .before .before .before .before .before in
+    rw (s .process2 .ensures, s .before .process .ensures)
+
+pub snare-spec : {M : Type 1} → statement M
+snare-spec = tie.close (tie.spec process-requires process-requires-2 returns)

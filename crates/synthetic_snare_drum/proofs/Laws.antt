@@ -15,6 +15,7 @@ use Rattle.units.specs.Units.{ratio, semitonesToRatio, unwrapOr}
 use Rattle.units.proofs.InRange.{in-range}
 use Rattle.synthetic_snare_drum.specs.SyntheticSnareDrum.{renderRefusal}
 
+-- the knobs that make the pitches
 abbrev pub KnobsIn : Float → Float → Float → Type 0
 KnobsIn fmAmount decay snappy = KnobIn fmAmount × (KnobIn decay × KnobIn snappy)
 
@@ -41,19 +42,21 @@ decay-xt x h =
     let inner = mul-bound binary32 0 1 1 0 1 0 (omega arith) (omega arith) (omega arith) (omega arith) (omega arith) (omega arith) x (x ⊖ decimal 1 0) h below in
     product x _ h (plus-whole binary32 1 (omega arith) (decimal 1 0) (x ⊗ (x ⊖ decimal 1 0)) one inner)
 
+-- the pitches of both decays
 module _ (fmAmount decay snappy other : Float) (knobs : KnobsIn fmAmount decay snappy) where
-  drum-pitch : Bound 84 7 (neg (decay ⊗ (decimal 1 0 ⊕ decay ⊗ (decay ⊖ decimal 1 0))) ⊗ decimal 72 0 ⊖ fmAmount ⊗ fmAmount ⊗ decimal 12 0 ⊕ snappy ⊗ decimal 7 0)
-  drum-pitch =
-      let f = unit-bound fmAmount (knobs .0) in
-      add-bound binary32 84 0 0 7 (omega arith) (omega arith) _ (snappy ⊗ decimal 7 0)
-      (sub-bound binary32 72 0 0 12 (omega arith) (omega arith) _ (fmAmount ⊗ fmAmount ⊗ decimal 12 0)
-      (minus-times 72 (omega arith) _ (decay-xt decay (unit-bound decay (knobs .1 .0))))
-      (times 12 (omega arith) (fmAmount ⊗ fmAmount) (product fmAmount fmAmount f f)))
-      (times 7 (omega arith) snappy (unit-bound snappy (knobs .1 .1)))
-
-  pub drum-ratio : let p = neg (decay ⊗ (decimal 1 0 ⊕ decay ⊗ (decay ⊖ decimal 1 0))) ⊗ decimal 72 0 ⊖ fmAmount ⊗ fmAmount ⊗ decimal 12 0 ⊕ snappy ⊗ decimal 7 0 in
+  pub drum-ratio :
+      let p = neg (decay ⊗ (decimal 1 0 ⊕ decay ⊗ (decay ⊖ decimal 1 0))) ⊗ decimal 72 0 ⊖ fmAmount ⊗ fmAmount ⊗ decimal 12 0 ⊕ snappy ⊗ decimal 7 0 in
       unwrapOr (semitonesToRatio p) other ≡ ratio p
-  drum-ratio = rw (in-range 84 7 _ (omega arith) (omega arith) drum-pitch)
+  drum-ratio =
+      let f = unit-bound fmAmount (knobs .0) in
+      let d = unit-bound decay (knobs .1 .0) in
+      let s = unit-bound snappy (knobs .1 .1) in
+      rw (in-range 84 7 _ (omega arith) (omega arith)
+      (add-bound binary32 84 0 0 7 (omega arith) (omega arith) _ (snappy ⊗ decimal 7 0)
+      (sub-bound binary32 72 0 0 12 (omega arith) (omega arith) _ (fmAmount ⊗ fmAmount ⊗ decimal 12 0)
+      (minus-times 72 (omega arith) _ (decay-xt decay d))
+      (times 12 (omega arith) (fmAmount ⊗ fmAmount) (product fmAmount fmAmount f f)))
+      (times 7 (omega arith) snappy s)))
 
   pub snare-ratio : let p = neg decay ⊗ decimal 60 0 ⊖ snappy ⊗ decimal 7 0 in unwrapOr (semitonesToRatio p) other ≡ ratio p
   snare-ratio =

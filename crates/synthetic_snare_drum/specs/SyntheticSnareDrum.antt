@@ -53,21 +53,22 @@ init v sampleRateHz = unlessRefused (initRefusal sampleRateHz) (initialized v sa
 
 -- ---- the lines of `render` before its loop
 
--- `fm_amount *= fm_amount`: all lines after it, the loop's too, read the square. Both decays read `snappy` as it was given, the lines after them as it is clamped.
+-- `fm_amount *= fm_amount`: all lines after it, the loop's too, read the square. Both decays read `snappy` as it was given, and all lines after them as it is clamped.
 unfoldable pub settings : Float → Bool → Float → Float → Float → Float → Settings
 settings sampleRateHz sustain f0 fmAmount decay snappy =
     let decayXt = decay ⊗ (decimal 1 0 ⊕ decay ⊗ (decay ⊖ decimal 1 0)) in
     let fmSquared = fmAmount ⊗ fmAmount in
-    let drumRatio = ratio (neg decayXt ⊗ decimal 72 0 ⊖ fmSquared ⊗ decimal 12 0 ⊕ snappy ⊗ decimal 7 0) in
-    let snareRatio = ratio (neg decay ⊗ decimal 60 0 ⊖ snappy ⊗ decimal 7 0) in
+    let drumDecay = decimal 1 0 ⊖ decimal 1 0 ⊘ (decimal 15 3 ⊗ sampleRateHz) ⊗ ratio (neg decayXt ⊗ decimal 72 0 ⊖ fmSquared ⊗ decimal 12 0 ⊕ snappy ⊗ decimal 7 0) in
+    let snareDecay = decimal 1 0 ⊖ decimal 1 0 ⊘ (decimal 1 2 ⊗ sampleRateHz) ⊗ ratio (neg decay ⊗ decimal 60 0 ⊖ snappy ⊗ decimal 7 0) in
+    let fmDecay = decimal 1 0 ⊖ decimal 1 0 ⊘ (decimal 7 3 ⊗ sampleRateHz) in
     let clamped = clamp (snappy ⊗ decimal 11 1 ⊖ decimal 5 2) (decimal 0 0) (decimal 1 0) in
     record {
       sustain = sustain;
       f0 = f0;
       «fm_amount» = fmSquared;
-      «drum_decay» = decimal 1 0 ⊖ decimal 1 0 ⊘ (decimal 15 3 ⊗ sampleRateHz) ⊗ drumRatio;
-      «snare_decay» = decimal 1 0 ⊖ decimal 1 0 ⊘ (decimal 1 2 ⊗ sampleRateHz) ⊗ snareRatio;
-      «fm_decay» = decimal 1 0 ⊖ decimal 1 0 ⊘ (decimal 7 3 ⊗ sampleRateHz);
+      «drum_decay» = drumDecay;
+      «snare_decay» = snareDecay;
+      «fm_decay» = fmDecay;
       snappy = clamped;
       «drum_level» = sqrt (decimal 1 0 ⊖ clamped);
       «snare_level» = sqrt clamped;
@@ -93,11 +94,12 @@ tuned b v =
 unfoldable pub triggered : SyntheticSnareDrum → Bool → Float → Float → SyntheticSnareDrum
 triggered v false accent decay = v
 triggered v true accent decay =
+    let snareAmplitude = decimal 3 1 ⊕ decimal 7 1 ⊗ accent in
     record {
       «sample_rate_hz» = v .«sample_rate_hz»;
       phase = decimal 0 0 ∷ decimal 0 0 ∷ [];
-      «drum_amplitude» = decimal 3 1 ⊕ decimal 7 1 ⊗ accent;
-      «snare_amplitude» = decimal 3 1 ⊕ decimal 7 1 ⊗ accent;
+      «drum_amplitude» = snareAmplitude;
+      «snare_amplitude» = snareAmplitude;
       fm = decimal 1 0;
       «sustain_gain» = v .«sustain_gain»;
       «hold_counter» = toUnsigned 32 ((decimal 4 2 ⊕ decay ⊗ decimal 3 2) ⊗ v .«sample_rate_hz»);
@@ -107,8 +109,8 @@ triggered v true accent decay =
     }
 
 -- the state as the loop begins
-unfoldable pub begun : SyntheticSnareDrum → ℕ → Settings → Bool → Float → Float → ℕ → Sounding
-begun v noise b trigger accent decay size =
+unfoldable pub begun : Settings → SyntheticSnareDrum → ℕ → Bool → Float → Float → ℕ → Sounding
+begun b v noise trigger accent decay size =
     let voice = triggered (tuned b v) trigger accent decay in
     record { voice = voice; gain = ParameterInterpolator.new (voice .«sustain_gain») (accent ⊗ decay) size; noise = noise }
 
@@ -174,12 +176,12 @@ drum b e drumLp phase =
 
 unfoldable pub snare : Settings → Envelopes → OnePole → Svf → Float → SnareOutput
 snare b e snareHp snareLp noise =
-    let l = Svf.process snareLp noise LowPass in
-    let h = OnePole.process snareHp (l .out) HighPass in
+    let low = Svf.process snareLp noise LowPass in
+    let high = OnePole.process snareHp (low .out) HighPass in
     record {
-      «snare_hp» = h .filter;
-      «snare_lp» = l .filter;
-      out = (h .out ⊕ decimal 1 1) ⊗ (e .«snare_amplitude» ⊕ e .fm) ⊗ b .«snare_level»;
+      «snare_hp» = high .filter;
+      «snare_lp» = low .filter;
+      out = (high .out ⊕ decimal 1 1) ⊗ (e .«snare_amplitude» ⊕ e .fm) ⊗ b .«snare_level»;
     }
 
 unfoldable pub step : Settings → Sounding → Sounded
@@ -245,23 +247,23 @@ renderRefusal sampleRateHz size accent f0 fmAmount decay snappy =
     0))))))
 
 -- the state after the loop of an accepted call
-abbrev pub sounded : SyntheticSnareDrum → ℕ → Bool → Bool → Float → Float → Float → Float → Float → ℕ → Sounding
-sounded v noise sustain trigger accent f0 fmAmount decay snappy size =
+abbrev pub played : SyntheticSnareDrum → ℕ → Bool → Bool → Float → Float → Float → Float → Float → ℕ → Sounding
+played v noise sustain trigger accent f0 fmAmount decay snappy size =
     let b = settings (v .«sample_rate_hz») sustain f0 fmAmount decay snappy in
-    after (turn b) size (begun v noise b trigger accent decay size)
+    after (turn b) size (begun b v noise trigger accent decay size)
 
 -- the voice after the call
 abbrev pub render : SyntheticSnareDrum → ℕ → Bool → Bool → Float → Float → Float → Float → Float → ℕ → SyntheticSnareDrum
 render v noise sustain trigger accent f0 fmAmount decay snappy size =
     unlessRefused (renderRefusal (v .«sample_rate_hz») size accent f0 fmAmount decay snappy)
-    (ended (sounded v noise sustain trigger accent f0 fmAmount decay snappy size))
+    (ended (played v noise sustain trigger accent f0 fmAmount decay snappy size))
     v
 
 -- the noise state after the call
 abbrev pub renderNoise : SyntheticSnareDrum → ℕ → Bool → Bool → Float → Float → Float → Float → Float → ℕ → ℕ
 renderNoise v noise sustain trigger accent f0 fmAmount decay snappy size =
     unlessRefused (renderRefusal (v .«sample_rate_hz») size accent f0 fmAmount decay snappy)
-    (sounded v noise sustain trigger accent f0 fmAmount decay snappy size .noise)
+    (played v noise sustain trigger accent f0 fmAmount decay snappy size .noise)
     noise
 
 -- what `out` holds after the call
@@ -269,5 +271,5 @@ abbrev pub renderOut : SyntheticSnareDrum → ℕ → Bool → Bool → Float �
 renderOut v noise sustain trigger accent f0 fmAmount decay snappy out =
     let b = settings (v .«sample_rate_hz») sustain f0 fmAmount decay snappy in
     unlessRefused (renderRefusal (v .«sample_rate_hz») (length out) accent f0 fmAmount decay snappy)
-    (samples (turn b) (length out) (begun v noise b trigger accent decay (length out)))
+    (samples (turn b) (length out) (begun b v noise trigger accent decay (length out)))
     out

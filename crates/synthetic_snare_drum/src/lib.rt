@@ -40,7 +40,7 @@ pub struct Rendered {
     pub noise: u32,
 }
 
-// What stays the same over a block.
+// What stays the same over a block: fm_amount is squared here, and snappy clamped.
 struct Settings {
     sustain: bool,
     f0: f32,
@@ -53,7 +53,7 @@ struct Settings {
     snare_level: f32,
 }
 
-// What the loop changes. The gain, which only a sustained block steps, is the voice's sustain_gain while the block lasts.
+// What the loop changes. While it runs, the gain stands for the voice's sustain_gain.
 struct Sounding {
     voice: SyntheticSnareDrum,
     gain: ParameterInterpolator,
@@ -141,15 +141,8 @@ impl SyntheticSnareDrum {
         ensures noise { λ r. ⌜ r .noise ≡ spec.renderNoise self noise sustain trigger accent f0 «fm_amount» decay snappy (length (now (out .entry))) ⌝ }
         ensures block { λ _. ⌜ now (out .exit) ≡ spec.renderOut self noise sustain trigger accent f0 «fm_amount» decay snappy (now (out .entry)) ⌝ }
     {
-        let answer = asked(
-            self.sample_rate_hz,
-            out.len(),
-            accent,
-            f0,
-            fm_amount,
-            decay,
-            snappy,
-        );
+        let rate = self.sample_rate_hz;
+        let answer = asked(rate, out.len(), accent, f0, fm_amount, decay, snappy);
         match answer {
             Answer::Refused(_) => Rendered {
                 answer,
@@ -157,7 +150,6 @@ impl SyntheticSnareDrum {
                 noise,
             },
             Answer::Accepted => {
-                let rate = self.sample_rate_hz;
                 let settings = Settings::new(rate, sustain, f0, fm_amount, decay, snappy);
                 let begun = self.begun(settings, noise, trigger, accent, decay, out.len());
                 let sounding = begun.run(settings, out);
@@ -217,7 +209,7 @@ impl SyntheticSnareDrum {
         size: usize,
     ) -> Sounding
         requires { ⌜ size ≤ 16384 ⌝ }
-        ensures { λ r. ⌜ r ≡ spec.begun self noise settings trigger accent decay size ⌝ }
+        ensures { λ r. ⌜ r ≡ spec.begun settings self noise trigger accent decay size ⌝ }
     {
         let voice = self.tuned(settings).triggered(trigger, accent, decay);
         let gain = ParameterInterpolator::new(voice.sustain_gain, accent * decay, size as u32);
@@ -227,7 +219,7 @@ impl SyntheticSnareDrum {
 
 // The questions of `render`, in the order of their numbers.
 fn asked(
-    sample_rate_hz: f32,
+    rate: f32,
     samples: usize,
     accent: f32,
     f0: f32,
@@ -235,7 +227,7 @@ fn asked(
     decay: f32,
     snappy: f32,
 ) -> Answer
-    ensures { λ r. ⌜ answerNumber r ≡ spec.renderRefusal «sample_rate_hz» samples accent f0 «fm_amount» decay snappy ⌝ }
+    ensures { λ r. ⌜ answerNumber r ≡ spec.renderRefusal rate samples accent f0 «fm_amount» decay snappy ⌝ }
 {
     let last = refusal::ask(refusal::is_unit(snappy), Refusal::Knob, Answer::Accepted);
     let decays = refusal::ask(refusal::is_unit(decay), Refusal::Knob, last);
@@ -247,11 +239,7 @@ fn asked(
         Refusal::BlockLength,
         third,
     );
-    refusal::ask(
-        refusal::is_sample_rate(sample_rate_hz),
-        Refusal::SampleRate,
-        second,
-    )
+    refusal::ask(refusal::is_sample_rate(rate), Refusal::SampleRate, second)
 }
 
 impl Settings {
@@ -309,61 +297,68 @@ impl Sounding {
     fn step(self, settings: Settings) -> Sounded
         ensures { λ r. ⌜ r ≡ spec.step settings self ⌝ }
     {
-        let v = self.voice;
-        let e = self.envelopes(settings);
-        let phase_before = v.phase;
-        let phase = phases(settings, phase_before, e.fm);
-        let drum = drum(settings, e, v.drum_lp, phase);
+        let voice = self.voice;
+        let envelopes = self.envelopes(settings);
+        let phase_before = voice.phase;
+        let phase = phases(settings, phase_before, envelopes.fm);
+        let drum = drum(settings, envelopes, voice.drum_lp, phase);
         let noise = random::get_float(self.noise);
-        let snare = snare(settings, e, v.snare_hp, v.snare_lp, noise.value);
+        let snare = snare(
+            settings,
+            envelopes,
+            voice.snare_hp,
+            voice.snare_lp,
+            noise.value,
+        );
         let drum_lp = drum.filter;
         let snare_hp = snare.snare_hp;
         let snare_lp = snare.snare_lp;
-        let voice = SyntheticSnareDrum {
-            sample_rate_hz: v.sample_rate_hz,
+        let gain = envelopes.gain;
+        let next = SyntheticSnareDrum {
+            sample_rate_hz: voice.sample_rate_hz,
             phase,
-            drum_amplitude: e.drum_amplitude,
-            snare_amplitude: e.snare_amplitude,
-            fm: e.fm,
-            sustain_gain: v.sustain_gain,
-            hold_counter: e.hold_counter,
+            drum_amplitude: envelopes.drum_amplitude,
+            snare_amplitude: envelopes.snare_amplitude,
+            fm: envelopes.fm,
+            sustain_gain: voice.sustain_gain,
+            hold_counter: envelopes.hold_counter,
             drum_lp,
             snare_hp,
             snare_lp,
         };
-        let gain = e.gain;
         Sounded {
             sample: snare.out + drum.out,
             next: Sounding {
-                voice,
+                voice: next,
                 gain,
                 noise: noise.word,
             },
         }
     }
 
-    // The envelope for the snare has a "hold" stage which lasts between 40 and 70 ms.
+    // Only a sustained block steps the gain. In any other all envelopes decay, the snare's after a "hold" stage which lasts
+    // between 40 and 70 ms.
     fn envelopes(self, settings: Settings) -> Envelopes
         ensures { λ r. ⌜ r ≡ spec.envelopes settings self ⌝ }
     {
-        let v = self.voice;
+        let voice = self.voice;
         if settings.sustain {
             let gain = self.gain.next();
             return Envelopes {
                 drum_amplitude: gain.value,
                 snare_amplitude: gain.value,
                 fm: 0.0,
-                hold_counter: v.hold_counter,
+                hold_counter: voice.hold_counter,
                 gain,
             };
         }
         let gain = self.gain;
-        let drum_amplitude = v.drum_amplitude * settings.drum_decay;
-        let fm = v.fm * settings.fm_decay;
-        if v.hold_counter == 0 {
+        let drum_amplitude = voice.drum_amplitude * settings.drum_decay;
+        let fm = voice.fm * settings.fm_decay;
+        if voice.hold_counter == 0 {
             return Envelopes {
                 drum_amplitude,
-                snare_amplitude: v.snare_amplitude * settings.snare_decay,
+                snare_amplitude: voice.snare_amplitude * settings.snare_decay,
                 fm,
                 hold_counter: 0,
                 gain,
@@ -371,9 +366,9 @@ impl Sounding {
         }
         Envelopes {
             drum_amplitude,
-            snare_amplitude: v.snare_amplitude,
+            snare_amplitude: voice.snare_amplitude,
             fm,
-            hold_counter: v.hold_counter - 1,
+            hold_counter: voice.hold_counter - 1,
             gain,
         }
     }
@@ -414,7 +409,7 @@ fn reset_sign(phase: f32) -> f32
     if phase > 0.5 { -1.0 } else { 1.0 }
 }
 
-// A phase that has come to its end starts again. It may stay outside of 0 to 1.
+// A phase at its end starts again. As in the Rust this is no wrap: a phase may stay outside of 0 to 1.
 fn reset(phase: f32, reset_noise_amount: f32, reset_noise: f32) -> f32
     ensures { λ r. ⌜ r ≡ spec.reset phase «reset_noise_amount» «reset_noise» ⌝ }
 {
@@ -430,12 +425,17 @@ fn reset(phase: f32, reset_noise_amount: f32, reset_noise: f32) -> f32
     phase
 }
 
-fn drum(settings: Settings, e: Envelopes, drum_lp: OnePole, phase: [f32; 2]) -> OnePoleOutput
-    ensures { λ r. ⌜ r ≡ spec.drum settings e «drum_lp» phase ⌝ }
+fn drum(
+    settings: Settings,
+    envelopes: Envelopes,
+    drum_lp: OnePole,
+    phase: [f32; 2],
+) -> OnePoleOutput
+    ensures { λ r. ⌜ r ≡ spec.drum settings envelopes «drum_lp» phase ⌝ }
 {
     let drum = -0.1 + distorted_sine(phase[0]) * 0.60 + distorted_sine(phase[1]) * 0.25;
     drum_lp.process(
-        drum * (e.drum_amplitude * settings.drum_level),
+        drum * (envelopes.drum_amplitude * settings.drum_level),
         FilterMode::LowPass,
     )
 }
@@ -455,20 +455,21 @@ fn folded(phase: f32) -> f32
 
 fn snare(
     settings: Settings,
-    e: Envelopes,
+    envelopes: Envelopes,
     snare_hp: OnePole,
     snare_lp: Svf,
     noise: f32,
 ) -> SnareOutput
-    ensures { λ r. ⌜ r ≡ spec.snare settings e «snare_hp» «snare_lp» noise ⌝ }
+    ensures { λ r. ⌜ r ≡ spec.snare settings envelopes «snare_hp» «snare_lp» noise ⌝ }
 {
-    let l = snare_lp.process(noise, FilterMode::LowPass);
-    let h = snare_hp.process(l.out, FilterMode::HighPass);
-    let lp = l.filter;
-    let hp = h.filter;
+    let low = snare_lp.process(noise, FilterMode::LowPass);
+    let high = snare_hp.process(low.out, FilterMode::HighPass);
+    let hp = high.filter;
+    let lp = low.filter;
+    let envelope = envelopes.snare_amplitude + envelopes.fm;
     SnareOutput {
         snare_hp: hp,
         snare_lp: lp,
-        out: (h.out + 0.1) * (e.snare_amplitude + e.fm) * settings.snare_level,
+        out: (high.out + 0.1) * envelope * settings.snare_level,
     }
 }

@@ -1,16 +1,14 @@
 -- What the questions of `render` show: the length and the knobs of an accepted call lie between their bounds, so both pitches lie in the tables. Assumes nothing.
 use borrow.Author.Tests.{leb-true}
 use mathlib.Core.Path.{_≡_}
-use mathlib.Core.Bool.{false}
 use Prim.Native.Nat.{ℕ, _≤_}
 use native.Mathlib.Omega.{arith}
 use lib.Ieee.{Float, binary32, neg}
-use lib.Ieee.Back.{round-whole}
 use Rattle.ieee754.specs.Single.{_⊕_, _⊖_, _⊗_, decimal}
-use Rattle.ieee754.proofs.Bounds.{Bound, mul-bound, add-bound, sub-bound, plus-whole, minus-whole}
+use Rattle.ieee754.proofs.Bounds.{add-bound, sub-bound}
 use Rattle.refusal.specs.Refusal.{KnobIn, isSampleRate, isBlockLength, isFrequency, isUnit}
 use Rattle.refusal.proofs.Laws.{passed}
-use Rattle.refusal.proofs.Knobs.{unit-bound, times, minus-times}
+use Rattle.refusal.proofs.Knobs.{unit-bound, times, minus-times, product, decay-xt}
 use Rattle.units.specs.Units.{ratio, semitonesToRatio, unwrapOr}
 use Rattle.units.proofs.InRange.{in-range}
 use Rattle.synthetic_snare_drum.specs.SyntheticSnareDrum.{renderRefusal}
@@ -31,17 +29,6 @@ bounds-in rate size accent f0 fmAmount decay snappy h =
     let d = passed (isUnit decay) 5 _ (omega arith) (m .1) in
     (leb-true _ _ (h₃ .0), (m .0, (d .0, passed (isUnit snappy) 5 _ (omega arith) (d .1) .0)))
 
--- a product of two knobs
-product : (x y : Float) → Bound 0 1 x → Bound 0 1 y → Bound 0 1 (x ⊗ y)
-product x y h k = mul-bound binary32 0 1 0 1 0 1 (omega arith) (omega arith) (omega arith) (omega arith) (omega arith) (omega arith) x y h k
-
-decay-xt : (x : Float) → Bound 0 1 x → Bound 0 1 (x ⊗ (decimal 1 0 ⊕ x ⊗ (x ⊖ decimal 1 0)))
-decay-xt x h =
-    let one = round-whole binary32 false 1 (omega arith) in
-    let below = minus-whole binary32 1 (omega arith) x (decimal 1 0) h one in
-    let inner = mul-bound binary32 0 1 1 0 1 0 (omega arith) (omega arith) (omega arith) (omega arith) (omega arith) (omega arith) x (x ⊖ decimal 1 0) h below in
-    product x _ h (plus-whole binary32 1 (omega arith) (decimal 1 0) (x ⊗ (x ⊖ decimal 1 0)) one inner)
-
 -- the pitches of both decays
 module _ (fmAmount decay snappy other : Float) (knobs : KnobsIn fmAmount decay snappy) where
   pub drum-ratio :
@@ -51,16 +38,16 @@ module _ (fmAmount decay snappy other : Float) (knobs : KnobsIn fmAmount decay s
       let f = unit-bound fmAmount (knobs .0) in
       let d = unit-bound decay (knobs .1 .0) in
       let s = unit-bound snappy (knobs .1 .1) in
-      rw (in-range 84 7 _ (omega arith) (omega arith)
+      in-range 84 7 _ (omega arith) (omega arith)
       (add-bound binary32 84 0 0 7 (omega arith) (omega arith) _ (snappy ⊗ decimal 7 0)
       (sub-bound binary32 72 0 0 12 (omega arith) (omega arith) _ (fmAmount ⊗ fmAmount ⊗ decimal 12 0)
       (minus-times 72 (omega arith) _ (decay-xt decay d))
       (times 12 (omega arith) (fmAmount ⊗ fmAmount) (product fmAmount fmAmount f f)))
-      (times 7 (omega arith) snappy s)))
+      (times 7 (omega arith) snappy s)) other
 
   pub snare-ratio : let p = neg decay ⊗ decimal 60 0 ⊖ snappy ⊗ decimal 7 0 in unwrapOr (semitonesToRatio p) other ≡ ratio p
   snare-ratio =
-      rw (in-range 67 0 _ (omega arith) (omega arith)
+      in-range 67 0 _ (omega arith) (omega arith)
       (sub-bound binary32 60 0 0 7 (omega arith) (omega arith) _ (snappy ⊗ decimal 7 0)
       (minus-times 60 (omega arith) decay (unit-bound decay (knobs .1 .0)))
-      (times 7 (omega arith) snappy (unit-bound snappy (knobs .1 .1)))))
+      (times 7 (omega arith) snappy (unit-bound snappy (knobs .1 .1)))) other

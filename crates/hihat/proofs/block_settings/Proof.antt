@@ -2,7 +2,7 @@
 use borrow.Author.Needs.{needs}
 use native.Mathlib.Omega.{arith}
 use lib.Ieee.{round, ofBits}
-use Rattle.hihat.proofs.Laws.{minus-knob-ratio}
+use Rattle.units.proofs.InRange.{minus-knob-ratio}
 use Rattle.hihat.specs.Hihat.{settings}
 use Rattle.hihat.proofs.block_settings.Statement.{statement}
 use Rattle.hihat.proofs.block_settings.Tie as tie

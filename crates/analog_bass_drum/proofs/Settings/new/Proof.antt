@@ -2,7 +2,7 @@
 use borrow.Author.Needs.{needs}
 use native.Mathlib.Omega.{arith}
 use lib.Ieee.{round, ofBits}
-use Rattle.analog_bass_drum.proofs.Laws.{knob-ratio}
+use Rattle.units.proofs.InRange.{knob-ratio}
 use Rattle.analog_bass_drum.specs.AnalogBassDrum.{settings}
 use Rattle.analog_bass_drum.proofs.Settings.new.Statement.{statement}
 use Rattle.analog_bass_drum.proofs.Settings.new.Tie as tie

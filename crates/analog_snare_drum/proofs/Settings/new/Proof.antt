@@ -1,7 +1,7 @@
 -- `analog_snare_drum::Settings::new` meets its contract. Assumes nothing.
 use borrow.Author.Needs.{needs}
 use lib.Ieee.{round, ofBits}
-use Rattle.analog_snare_drum.proofs.Laws.{q-pitch, noise-pitch}
+use Rattle.analog_snare_drum.proofs.Laws.{q-ratio, noise-ratio}
 use Rattle.analog_snare_drum.specs.AnalogSnareDrum.{settings}
 use Rattle.analog_snare_drum.proofs.Settings.new.Statement.{statement}
 use Rattle.analog_snare_drum.proofs.Settings.new.Tie as tie
@@ -38,10 +38,10 @@ returns c =
       c₁ .gains .ensures,
       c₂ .unwrap-or2 .ensures,
       c₃ .semitones-to-ratio2 .ensures .exact,
-      noise-pitch (s .args .decay) (s .args .snappy) (s .pre .0) (s .pre .1),
+      noise-ratio (s .args .decay) (s .args .snappy) _ (s .pre .0) (s .pre .1),
       c₄ .unwrap-or .ensures,
       c₅ .semitones-to-ratio .ensures .exact,
-      q-pitch (s .args .decay) (s .pre .0),
+      q-ratio (s .args .decay) (s .args .snappy) _ (s .pre .0) (s .pre .1),
     )
 
 pub new-spec : {M : Type 1} → statement M

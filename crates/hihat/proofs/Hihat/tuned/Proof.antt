@@ -2,7 +2,7 @@
 use borrow.Author.Needs.{needs}
 use native.Mathlib.Omega.{arith}
 use lib.Ieee.{round, ofBits}
-use Rattle.hihat.proofs.Laws.{knob-ratio}
+use Rattle.units.proofs.InRange.{knob-ratio}
 use Rattle.hihat.specs.Hihat.{tuned}
 use Rattle.hihat.proofs.Hihat.tuned.Statement.{statement}
 use Rattle.hihat.proofs.Hihat.tuned.Tie as tie

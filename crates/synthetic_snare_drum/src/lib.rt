@@ -297,30 +297,24 @@ impl Sounding {
     fn step(self, settings: Settings) -> Sounded
         ensures { λ r. ⌜ r ≡ spec.step settings self ⌝ }
     {
-        let voice = self.voice;
+        let old = self.voice;
         let envelopes = self.envelopes(settings);
-        let phase_before = voice.phase;
+        let phase_before = old.phase;
         let phase = phases(settings, phase_before, envelopes.fm);
-        let drum = drum(settings, envelopes, voice.drum_lp, phase);
+        let drum = drum(settings, envelopes, old.drum_lp, phase);
         let noise = random::get_float(self.noise);
-        let snare = snare(
-            settings,
-            envelopes,
-            voice.snare_hp,
-            voice.snare_lp,
-            noise.value,
-        );
+        let snare = snare(settings, envelopes, old.snare_hp, old.snare_lp, noise.value);
         let drum_lp = drum.filter;
         let snare_hp = snare.snare_hp;
         let snare_lp = snare.snare_lp;
         let gain = envelopes.gain;
-        let next = SyntheticSnareDrum {
-            sample_rate_hz: voice.sample_rate_hz,
+        let voice = SyntheticSnareDrum {
+            sample_rate_hz: old.sample_rate_hz,
             phase,
             drum_amplitude: envelopes.drum_amplitude,
             snare_amplitude: envelopes.snare_amplitude,
             fm: envelopes.fm,
-            sustain_gain: voice.sustain_gain,
+            sustain_gain: old.sustain_gain,
             hold_counter: envelopes.hold_counter,
             drum_lp,
             snare_hp,
@@ -329,7 +323,7 @@ impl Sounding {
         Sounded {
             sample: snare.out + drum.out,
             next: Sounding {
-                voice: next,
+                voice,
                 gain,
                 noise: noise.word,
             },

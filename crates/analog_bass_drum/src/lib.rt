@@ -35,7 +35,7 @@ pub struct Answered {
     pub voice: AnalogBassDrum,
 }
 
-// What stays the same over a settings.
+// What stays the same over a block.
 struct Settings {
     f0: f32,
     scale: f32,
@@ -158,7 +158,7 @@ impl AnalogBassDrum {
         self
     }
 
-    // The loop over the settings.
+    // The loop over the block.
     fn run(self, settings: Settings, out: &mut [f32]) -> Self
         ensures voice { λ r. ⌜ r ≡ after (spec.turn settings) (length (now (out .entry))) self ⌝ }
         ensures block { λ _. ⌜ now (out .exit) ≡ samples (spec.turn settings) (length (now (out .entry))) self ⌝ }

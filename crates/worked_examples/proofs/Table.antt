@@ -1,0 +1,106 @@
+-- Examples at the edges, each computed from the definitions that the contracts cite. Assumes nothing.
+use mathlib.Core.Path.{_≡_, refl}
+use mathlib.Core.Bool.{true, false}
+use mathlib.Core.List.{List, [], _∷_}
+use Prim.Native.Nat.{ℕ, zero, suc}
+use lib.IntN.{pos}
+use lib.ListN.{getD}
+use lib.Ieee.{Float, nan, fin, binary32, ofBits, toBits, ofInt, round, add, sub, mul, div, neg, le, lt, isNan, toUnsigned}
+use Rattle.ieee754.specs.Single.{_⊘_, _⊖_, decimal}
+use Rattle.ieee754.specs.Operations.{isSignMinus, precedes, minimumNumber}
+use Rattle.ieee754.specs.Root.{sqrt}
+use Rattle.random.specs.Random.{getWord, getFloat}
+use Rattle.units.specs.Tables.{«LUT_PITCH_RATIO_HIGH», «LUT_PITCH_RATIO_LOW»}
+use Rattle.units.specs.Units.{ratio, semitonesToRatio, number}
+use Rattle.units.specs.declared.Ratio.the-variants.{Of}
+use Rattle.utils.specs.Utils.{softLimit, softClip}
+use Rattle.hihat.specs.SquareNoise.{ratios, increment, increments, advanced, countHigh}
+use Rattle.hihat.specs.SquareNoise as SquareNoise
+use Rattle.text.specs.Read as Read
+use Rattle.text.specs.Write as Write
+use Rattle.text.specs.Write.{ascii}
+use Rattle.listing.specs.Draws as Draws
+
+-- the listing of `draws` for the input `33,2` and its line end
+draws-33-2 : Draws.text (ascii "33,2\n") ≡ ascii "draw,word,bits\n1,1068833548,3e7ed46c\n2,1167334139,3e8b2836\n"
+unfolding Draws.text Draws.answer Draws.rows Draws.row Draws.readRequest Draws.fromFields Draws.readNumbers Draws.onNumber Read.ended Read.body Read.fields Read.attach Read.decimal Read.wellFormed Read.numeral Read.upTo Read.digit Write.decimal Write.digits Write.digit Write.places Write.placesWithin Write.pattern getWord getFloat toBits ofInt div round
+draws-33-2 = refl
+
+-- a word as a float: its rounding to an f32, divided by 2^32
+abbrev asFloat : ℕ → Float
+asFloat word = ofInt binary32 (pos word) ⊘ decimal 4294967296 0
+
+word-4294967167 : asFloat 4294967167 ≡ ofBits binary32 0x3f7fffff
+unfolding ofInt div round ofBits
+word-4294967167 = refl
+
+word-4294967168 : asFloat 4294967168 ≡ decimal 1 0
+unfolding ofInt div round
+word-4294967168 = refl
+
+-- pitches; 3a214518 is the first entry of the upper table
+semitones-0 : semitonesToRatio (decimal 0 0) ≡ Of (ofBits binary32 0x3f800000)
+unfolding semitonesToRatio ratio «LUT_PITCH_RATIO_HIGH» «LUT_PITCH_RATIO_LOW» round ofBits add sub mul le ofInt toUnsigned
+semitones-0 = refl
+
+semitones-12 : semitonesToRatio (decimal 12 0) ≡ Of (ofBits binary32 0x40000000)
+unfolding semitonesToRatio ratio «LUT_PITCH_RATIO_HIGH» «LUT_PITCH_RATIO_LOW» round ofBits add sub mul le ofInt toUnsigned
+semitones-12 = refl
+
+first-entry : getD «LUT_PITCH_RATIO_HIGH» 0 nan ≡ ofBits binary32 0x3a214518
+unfolding «LUT_PITCH_RATIO_HIGH» round ofBits
+first-entry = refl
+
+semitones-minus-128 : semitonesToRatio (neg (decimal 128 0)) ≡ Of (ofBits binary32 0x3a214518)
+unfolding semitonesToRatio ratio «LUT_PITCH_RATIO_HIGH» «LUT_PITCH_RATIO_LOW» round ofBits add sub mul neg le ofInt toUnsigned
+semitones-minus-128 = refl
+
+semitones-minus-129 : semitonesToRatio (neg (decimal 129 0)) ≡ Of (ofBits binary32 0x3a214518)
+unfolding semitonesToRatio ratio «LUT_PITCH_RATIO_HIGH» «LUT_PITCH_RATIO_LOW» round ofBits add sub mul neg le ofInt toUnsigned
+semitones-minus-129 = refl
+
+semitones-nan : semitonesToRatio nan ≡ Of (ofBits binary32 0x3a214518)
+unfolding semitonesToRatio ratio «LUT_PITCH_RATIO_HIGH» «LUT_PITCH_RATIO_LOW» round ofBits add sub mul le ofInt toUnsigned
+semitones-nan = refl
+
+-- 128 - 2^-16, the last pitch that is accepted, and 128 - 2^-17, whose sum with 128 rounds to 256
+semitones-last : semitonesToRatio (decimal 128 0 ⊖ decimal 152587890625 16) ≡ Of (ofBits binary32 0x44cb243a)
+unfolding semitonesToRatio ratio «LUT_PITCH_RATIO_HIGH» «LUT_PITCH_RATIO_LOW» round ofBits add sub mul le ofInt toUnsigned
+semitones-last = refl
+
+semitones-past : number (semitonesToRatio (decimal 128 0 ⊖ decimal 762939453125 17)) ≡ 6
+unfolding semitonesToRatio round add sub le
+semitones-past = refl
+
+root-2 : sqrt binary32 (decimal 2 0) ≡ ofBits binary32 0x3fb504f3
+unfolding sqrt round ofBits
+root-2 = refl
+
+root-minus-0 : sqrt binary32 (neg (decimal 0 0)) ≡ neg (decimal 0 0)
+unfolding sqrt round neg
+root-minus-0 = refl
+
+soft-clip-3 : softClip (decimal 3 0) ≡ decimal 1 0
+unfolding softClip softLimit round add mul div neg lt
+soft-clip-3 = refl
+
+minimum-nan : minimumNumber nan (decimal 5 1) ≡ decimal 5 1
+unfolding minimumNumber isNan round
+minimum-nan = refl
+
+-- square noise from phases of 0 at f0 = 0.25: how many phases are high after one, two and three samples
+abbrev phasesAfter : ℕ → List ℕ
+phasesAfter zero = SquareNoise.init .phase
+phasesAfter (suc n) = advanced (phasesAfter n) (increments (decimal 25 2))
+
+square-noise-1 : countHigh (phasesAfter 1) ≡ 0
+unfolding advanced increments increment ratios round mul le toUnsigned
+square-noise-1 = refl
+
+square-noise-2 : countHigh (phasesAfter 2) ≡ 6
+unfolding advanced increments increment ratios round mul le toUnsigned
+square-noise-2 = refl
+
+square-noise-3 : countHigh (phasesAfter 3) ≡ 2
+unfolding advanced increments increment ratios round mul le toUnsigned
+square-noise-3 = refl

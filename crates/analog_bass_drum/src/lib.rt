@@ -271,15 +271,11 @@ fn asked(
         Refusal::Knob,
         Answer::Accepted,
     );
-    let attack = refusal::ask(refusal::is_unit(attack_fm_amount), Refusal::Knob, last);
-    let decays = refusal::ask(refusal::is_unit(decay), Refusal::Knob, attack);
-    let knobs = refusal::ask(refusal::is_unit(tone), Refusal::Knob, decays);
-    let fourth = refusal::ask(refusal::is_unit(accent), Refusal::Accent, knobs);
-    let third = refusal::ask(refusal::is_frequency(f0), Refusal::Frequency, fourth);
+    let knobs = refusal::ask_knobs(f0, accent, tone, decay, attack_fm_amount, last);
     refusal::ask(
         refusal::is_block_length(samples),
         Refusal::BlockLength,
-        third,
+        knobs,
     )
 }
 

@@ -5,8 +5,8 @@ use native.Mathlib.Omega.{arith}
 use lib.Ieee.{Float, binary32, neg}
 use Rattle.ieee754.specs.Single.{_⊕_, _⊖_, _⊗_, decimal}
 use Rattle.ieee754.proofs.Bounds.{mul-bound, add-bound, neg-bound, whole-bound}
-use Rattle.refusal.specs.Refusal.{KnobIn, isBlockLength, isFrequency, isUnit}
-use Rattle.refusal.proofs.Laws.{passed}
+use Rattle.refusal.specs.Refusal.{KnobIn, isBlockLength}
+use Rattle.refusal.proofs.Laws.{passed, knobs-passed}
 use Rattle.refusal.proofs.Knobs.{unit-bound, times, decay-xt}
 use Rattle.units.specs.Units.{ratio, semitonesToRatio, unwrapOr}
 use Rattle.units.proofs.InRange.{in-range}
@@ -15,11 +15,8 @@ use Rattle.analog_snare_drum.specs.AnalogSnareDrum.{renderRefusal}
 pub knobs-in : (size : ℕ) (accent f0 tone decay snappy : Float) → renderRefusal size accent f0 tone decay snappy ≡ 0 → KnobIn decay × KnobIn snappy
 unfolding renderRefusal
 knobs-in size accent f0 tone decay snappy h =
-    let h₃ = passed (isBlockLength size) 2 _ (omega arith) h .1 in
-    let h₄ = passed (isFrequency f0) 3 _ (omega arith) h₃ .1 in
-    let h₅ = passed (isUnit accent) 4 _ (omega arith) h₄ .1 in
-    let d = passed (isUnit decay) 5 _ (omega arith) (passed (isUnit tone) 5 _ (omega arith) h₅ .1) in
-    (d .0, passed (isUnit snappy) 5 _ (omega arith) (d .1) .0)
+    let k = knobs-passed f0 accent tone decay snappy _ (passed (isBlockLength size) 2 _ (omega arith) h .1) in
+    (k .second, k .third)
 
 -- the pitches: from 0 to 84 semitones, and from -60 to 0
 module _ (decay snappy other : Float) (d : KnobIn decay) (s : KnobIn snappy) where

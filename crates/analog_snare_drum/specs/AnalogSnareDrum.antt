@@ -8,7 +8,7 @@ use lib.Ieee.{Float, nan, binary32, neg, lt, ofInt, toUnsigned}
 use Rattle.ieee754.specs.Single.{_⊕_, _⊖_, _⊗_, decimal}
 use Rattle.ieee754.specs.Operations.{minimumNumber, clamp}
 use Rattle.block.specs.Block.{Turn, samples, after}
-use Rattle.refusal.specs.Refusal.{ask, unlessRefused, isSampleRate, isBlockLength, isFrequency, isUnit}
+use Rattle.refusal.specs.Refusal.{ask, askKnobs, unlessRefused, isSampleRate, isBlockLength}
 use Rattle.random.specs.Random.{getFloat}
 use Rattle.units.specs.Units.{ratio}
 use Rattle.utils.specs.Utils.{onePole, softClip}
@@ -206,14 +206,7 @@ turn s state = let o = step s (state .voice) (state .noise) in record { sample =
 
 -- the number of the first question that is not passed; 0 where all are
 unfoldable pub renderRefusal : ℕ → Float → Float → Float → Float → Float → ℕ
-renderRefusal size accent f0 tone decay snappy =
-    ask (isBlockLength size) 2
-    (ask (isFrequency f0) 3
-    (ask (isUnit accent) 4
-    (ask (isUnit tone) 5
-    (ask (isUnit decay) 5
-    (ask (isUnit snappy) 5
-    0)))))
+renderRefusal size accent f0 tone decay snappy = ask (isBlockLength size) 2 (askKnobs f0 accent tone decay snappy 0)
 
 -- what the loop starts from: the filters are tuned also where the block is empty
 abbrev pub started : AnalogSnareDrum → ℕ → Bool → Float → Float → Settings → Sounding

@@ -342,15 +342,11 @@ fn tuned_mode(resonator: Svf, f0: f32, mode_frequency: f32, q: f32) -> Svf
 fn asked(samples: usize, accent: f32, f0: f32, tone: f32, decay: f32, snappy: f32) -> Answer
     ensures { λ r. ⌜ answerNumber r ≡ spec.renderRefusal samples accent f0 tone decay snappy ⌝ }
 {
-    let last = refusal::ask(refusal::is_unit(snappy), Refusal::Knob, Answer::Accepted);
-    let decays = refusal::ask(refusal::is_unit(decay), Refusal::Knob, last);
-    let knobs = refusal::ask(refusal::is_unit(tone), Refusal::Knob, decays);
-    let fourth = refusal::ask(refusal::is_unit(accent), Refusal::Accent, knobs);
-    let third = refusal::ask(refusal::is_frequency(f0), Refusal::Frequency, fourth);
+    let knobs = refusal::ask_knobs(f0, accent, tone, decay, snappy, Answer::Accepted);
     refusal::ask(
         refusal::is_block_length(samples),
         Refusal::BlockLength,
-        third,
+        knobs,
     )
 }
 

@@ -4,8 +4,8 @@ use Prim.Native.Nat.{ℕ, _≤_}
 use native.Mathlib.Omega.{arith}
 use borrow.Author.Tests.{leb-true}
 use lib.Ieee.{Float}
-use Rattle.refusal.specs.Refusal.{KnobIn, isSampleRate, isBlockLength, isFrequency, isUnit}
-use Rattle.refusal.proofs.Laws.{passed}
+use Rattle.refusal.specs.Refusal.{KnobIn, isSampleRate, isBlockLength}
+use Rattle.refusal.proofs.Laws.{passed, knobs-passed}
 use Rattle.hihat.specs.Hihat.{renderRefusal}
 
 pub record Accepted (size : ℕ) (tone decay : Float) : Type 0 where
@@ -16,9 +16,6 @@ pub record Accepted (size : ℕ) (tone decay : Float) : Type 0 where
 pub accepted : (rate : Float) (size : ℕ) (accent f0 tone decay n : Float) → renderRefusal rate size accent f0 tone decay n ≡ 0 → Accepted size tone decay
 unfolding renderRefusal
 accepted rate size accent f0 tone decay n h =
-    let h₂ = passed (isSampleRate rate) 1 _ (omega arith) h .1 in
-    let s = passed (isBlockLength size) 2 _ (omega arith) h₂ in
-    let h₄ = passed (isFrequency f0) 3 _ (omega arith) (s .1) .1 in
-    let h₅ = passed (isUnit accent) 4 _ (omega arith) h₄ .1 in
-    let t = passed (isUnit tone) 5 _ (omega arith) h₅ in
-    record { short = leb-true _ _ (s .0); tone-in = t .0; decay-in = passed (isUnit decay) 5 _ (omega arith) (t .1) .0 }
+    let s = passed (isBlockLength size) 2 _ (omega arith) (passed (isSampleRate rate) 1 _ (omega arith) h .1) in
+    let k = knobs-passed f0 accent tone decay n _ (s .1) in
+    record { short = leb-true _ _ (s .0); tone-in = k .first; decay-in = k .second }

@@ -6,7 +6,7 @@ use lib.ListN.{length}
 use lib.Ieee.{Float, neg}
 use Rattle.ieee754.specs.Single.{_⊕_, _⊖_, _⊗_, _⊘_, decimal}
 use Rattle.ieee754.specs.Operations.{clamp}
-use Rattle.refusal.specs.Refusal.{ask, unlessRefused, isSampleRate, isBlockLength, isFrequency, isUnit}
+use Rattle.refusal.specs.Refusal.{ask, askKnobs, unlessRefused, isSampleRate, isBlockLength}
 use Rattle.units.specs.Units.{ratio}
 use Rattle.parameter_interpolator.specs.ParameterInterpolator as ParameterInterpolator
 use Rattle.parameter_interpolator.specs.declared.ParameterInterpolator.{ParameterInterpolator as Interpolator}
@@ -119,12 +119,7 @@ unfoldable pub renderRefusal : Float → ℕ → Float → Float → Float → F
 renderRefusal sampleRate size accent f0 tone decay noisiness =
     ask (isSampleRate sampleRate) 1
     (ask (isBlockLength size) 2
-    (ask (isFrequency f0) 3
-    (ask (isUnit accent) 4
-    (ask (isUnit tone) 5
-    (ask (isUnit decay) 5
-    (ask (isUnit noisiness) 5
-    0))))))
+    (askKnobs f0 accent tone decay noisiness 0))
 
 module _ (v : Hihat) (noise : ℕ) (sustain trigger : Bool) (accent f0 tone decay noisiness : Float) where
   -- the states that the passes over a block of an accepted call start in

@@ -276,15 +276,11 @@ fn asked(
 ) -> Answer
     ensures { λ r. ⌜ answerNumber r ≡ spec.renderRefusal «sample_rate» samples accent f0 tone decay noisiness ⌝ }
 {
-    let last = refusal::ask(refusal::is_unit(noisiness), Refusal::Knob, Answer::Accepted);
-    let decays = refusal::ask(refusal::is_unit(decay), Refusal::Knob, last);
-    let knobs = refusal::ask(refusal::is_unit(tone), Refusal::Knob, decays);
-    let fourth = refusal::ask(refusal::is_unit(accent), Refusal::Accent, knobs);
-    let third = refusal::ask(refusal::is_frequency(f0), Refusal::Frequency, fourth);
+    let knobs = refusal::ask_knobs(f0, accent, tone, decay, noisiness, Answer::Accepted);
     let second = refusal::ask(
         refusal::is_block_length(samples),
         Refusal::BlockLength,
-        third,
+        knobs,
     );
     refusal::ask(
         refusal::is_sample_rate(sample_rate),

@@ -5,11 +5,12 @@ use mathlib.Core.List.{[], _∷_}
 use Prim.Native.Nat.{ℕ, zero, suc, _<_}
 use native.Mathlib.Omega.{arith}
 use lib.ListN.{getD}
+use lib.Ieee.{Float}
 use Rattle.refusal.specs.declared.Refusal.{Refusal}
 use Rattle.refusal.specs.declared.Refusal.the-variants.{SampleRate, BlockLength, Frequency, Accent, Knob, Pitch, FirstLine, CueLine, CueStart, CueCount, BufferLength}
 use Rattle.refusal.specs.declared.Answer.{Answer}
 use Rattle.refusal.specs.declared.Answer.the-variants.{Accepted, Refused}
-use Rattle.refusal.specs.Refusal.{number, answerNumber, unlessRefused, ask}
+use Rattle.refusal.specs.Refusal.{number, answerNumber, unlessRefused, ask, isFrequency, isUnit, askKnobs, KnobIn}
 
 -- an answer is known by its number
 answerOf : ℕ → Answer
@@ -82,3 +83,20 @@ module _ {A : Type 0} (new old : A) (a : Answer) (n : ℕ) (known : answerNumber
 pub passed : (q : Bool) (n next : ℕ) → 0 < n → ask q n next ≡ 0 → (q ≡ true) × (next ≡ 0)
 passed true n next p h = (refl, h)
 passed false n next p h = absurd (omega arith)
+
+pub record KnobsPassed (f0 accent a b c : Float) (next : ℕ) : Type 0 where
+  pub frequency : isFrequency f0 ≡ true
+  pub accents : KnobIn accent
+  pub first : KnobIn a
+  pub second : KnobIn b
+  pub third : KnobIn c
+  pub rest : next ≡ 0
+
+pub knobs-passed : (f0 accent a b c : Float) (next : ℕ) → askKnobs f0 accent a b c next ≡ 0 → KnobsPassed f0 accent a b c next
+knobs-passed f0 accent a b c next h =
+    let f = passed (isFrequency f0) 3 _ (omega arith) h in
+    let s = passed (isUnit accent) 4 _ (omega arith) (f .1) in
+    let x = passed (isUnit a) 5 _ (omega arith) (s .1) in
+    let y = passed (isUnit b) 5 _ (omega arith) (x .1) in
+    let z = passed (isUnit c) 5 _ (omega arith) (y .1) in
+    record { frequency = f .0; accents = s .0; first = x .0; second = y .0; third = z .0; rest = z .1 }

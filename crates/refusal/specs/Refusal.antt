@@ -59,6 +59,16 @@ isFrequency f0 = within (round binary32 false 1 (2 ^ 20)) (decimal 5 1) f0
 unfoldable pub isUnit : Float → Bool
 isUnit x = within (decimal 0 0) (decimal 1 0) x
 
+-- 3, 4 and 5: what is asked of f0, of accent and of three more knobs, wherever a voice is played
+abbrev pub askKnobs : Float → Float → Float → Float → Float → ℕ → ℕ
+askKnobs f0 accent a b c next =
+    ask (isFrequency f0) 3
+    (ask (isUnit accent) 4
+    (ask (isUnit a) 5
+    (ask (isUnit b) 5
+    (ask (isUnit c) 5
+    next))))
+
 -- a knob that has passed its question
 abbrev pub KnobIn : Float → Type 0
 KnobIn x = isUnit x ≡ true

@@ -96,3 +96,14 @@ pub fn is_unit(x: f32) -> bool
 {
     within(0.0, 1.0, x)
 }
+
+// The questions 3, 4 and 5, of f0, of accent and of three more knobs, and the answer of the questions after them.
+pub fn ask_knobs(f0: f32, accent: f32, a: f32, b: f32, c: f32, next: Answer) -> Answer
+    ensures { λ r. ⌜ spec.answerNumber r ≡ spec.askKnobs f0 accent a b c (spec.answerNumber next) ⌝ }
+{
+    let last = ask(is_unit(c), Refusal::Knob, next);
+    let second = ask(is_unit(b), Refusal::Knob, last);
+    let knobs = ask(is_unit(a), Refusal::Knob, second);
+    let accents = ask(is_unit(accent), Refusal::Accent, knobs);
+    ask(is_frequency(f0), Refusal::Frequency, accents)
+}

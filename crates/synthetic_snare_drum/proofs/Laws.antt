@@ -6,8 +6,8 @@ use native.Mathlib.Omega.{arith}
 use lib.Ieee.{Float, binary32, neg}
 use Rattle.ieee754.specs.Single.{_⊕_, _⊖_, _⊗_, decimal}
 use Rattle.ieee754.proofs.Bounds.{add-bound, sub-bound}
-use Rattle.refusal.specs.Refusal.{KnobIn, isSampleRate, isBlockLength, isFrequency, isUnit}
-use Rattle.refusal.proofs.Laws.{passed}
+use Rattle.refusal.specs.Refusal.{KnobIn, isSampleRate, isBlockLength}
+use Rattle.refusal.proofs.Laws.{passed, knobs-passed}
 use Rattle.refusal.proofs.Knobs.{unit-bound, times, minus-times, product, decay-xt}
 use Rattle.units.specs.Units.{ratio, semitonesToRatio, unwrapOr}
 use Rattle.units.proofs.InRange.{in-range}
@@ -21,13 +21,9 @@ pub bounds-in : (rate : Float) (size : ℕ) (accent f0 fmAmount decay snappy : F
     → (size ≤ 16384) × KnobsIn fmAmount decay snappy
 unfolding renderRefusal
 bounds-in rate size accent f0 fmAmount decay snappy h =
-    let h₂ = passed (isSampleRate rate) 1 _ (omega arith) h .1 in
-    let h₃ = passed (isBlockLength size) 2 _ (omega arith) h₂ in
-    let h₄ = passed (isFrequency f0) 3 _ (omega arith) (h₃ .1) .1 in
-    let h₅ = passed (isUnit accent) 4 _ (omega arith) h₄ .1 in
-    let m = passed (isUnit fmAmount) 5 _ (omega arith) h₅ in
-    let d = passed (isUnit decay) 5 _ (omega arith) (m .1) in
-    (leb-true _ _ (h₃ .0), (m .0, (d .0, passed (isUnit snappy) 5 _ (omega arith) (d .1) .0)))
+    let s = passed (isBlockLength size) 2 _ (omega arith) (passed (isSampleRate rate) 1 _ (omega arith) h .1) in
+    let k = knobs-passed f0 accent fmAmount decay snappy _ (s .1) in
+    (leb-true _ _ (s .0), (k .first, (k .second, k .third)))
 
 -- the pitches of both decays
 module _ (fmAmount decay snappy other : Float) (knobs : KnobsIn fmAmount decay snappy) where

@@ -8,7 +8,7 @@ use lib.Ieee.{Float, nan, neg, le, lt, toUnsigned}
 use Rattle.ieee754.specs.Single.{_⊕_, _⊖_, _⊗_, _⊘_, decimal}
 use Rattle.ieee754.specs.Operations.{abs, minimumNumber, clamp}
 use Rattle.block.specs.Block.{Turn, samples, after}
-use Rattle.refusal.specs.Refusal.{ask, unlessRefused, isSampleRate, isBlockLength, isFrequency, isUnit}
+use Rattle.refusal.specs.Refusal.{ask, askKnobs, unlessRefused, isSampleRate, isBlockLength}
 use Rattle.random.specs.Random.{getFloat}
 use Rattle.units.specs.Units.{ratio}
 use Rattle.utils.specs.Utils.{sqrt}
@@ -239,12 +239,7 @@ unfoldable pub renderRefusal : Float → ℕ → Float → Float → Float → F
 renderRefusal sampleRateHz size accent f0 fmAmount decay snappy =
     ask (isSampleRate sampleRateHz) 1
     (ask (isBlockLength size) 2
-    (ask (isFrequency f0) 3
-    (ask (isUnit accent) 4
-    (ask (isUnit fmAmount) 5
-    (ask (isUnit decay) 5
-    (ask (isUnit snappy) 5
-    0))))))
+    (askKnobs f0 accent fmAmount decay snappy 0))
 
 -- the state after the loop of an accepted call
 abbrev pub played : SyntheticSnareDrum → ℕ → Bool → Bool → Float → Float → Float → Float → Float → ℕ → Sounding

@@ -229,15 +229,11 @@ fn asked(
 ) -> Answer
     ensures { λ r. ⌜ answerNumber r ≡ spec.renderRefusal rate samples accent f0 «fm_amount» decay snappy ⌝ }
 {
-    let last = refusal::ask(refusal::is_unit(snappy), Refusal::Knob, Answer::Accepted);
-    let decays = refusal::ask(refusal::is_unit(decay), Refusal::Knob, last);
-    let knobs = refusal::ask(refusal::is_unit(fm_amount), Refusal::Knob, decays);
-    let fourth = refusal::ask(refusal::is_unit(accent), Refusal::Accent, knobs);
-    let third = refusal::ask(refusal::is_frequency(f0), Refusal::Frequency, fourth);
+    let knobs = refusal::ask_knobs(f0, accent, fm_amount, decay, snappy, Answer::Accepted);
     let second = refusal::ask(
         refusal::is_block_length(samples),
         Refusal::BlockLength,
-        third,
+        knobs,
     );
     refusal::ask(refusal::is_sample_rate(rate), Refusal::SampleRate, second)
 }

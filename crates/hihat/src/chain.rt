@@ -59,7 +59,7 @@ struct ChainSample {
 
 impl Chain {
     // The loop over the block.
-    pub fn run(self, settings: Settings, out: &mut [f32]) -> Self
+    pub(crate) fn run(self, settings: Settings, out: &mut [f32]) -> Self
         ensures chain { λ r. ⌜ r ≡ spec.passed settings (length (now (out .entry))) self ⌝ }
         ensures block { λ _. ⌜ now (out .exit) ≡ spec.filtered settings (length (now (out .entry))) self ⌝ }
     {

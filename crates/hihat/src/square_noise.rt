@@ -45,7 +45,7 @@ impl SquareNoise {
     }
 
     // One turn of the loop: the phases step first.
-    pub fn step(self, increment: [u32; 6]) -> SquareSample
+    pub(crate) fn step(self, increment: [u32; 6]) -> SquareSample
         ensures { λ r. ⌜ (r .noise ≡ spec.turn increment self .next) × (r .sample ≡ spec.turn increment self .sample) ⌝ }
     {
         let old = self.phase;
@@ -58,7 +58,7 @@ impl SquareNoise {
     }
 }
 
-pub fn increments(f0: f32) -> [u32; 6]
+pub(crate) fn increments(f0: f32) -> [u32; 6]
     ensures { λ r. ⌜ r ≡ spec.increments f0 ⌝ }
 {
     let a = increment_at(f0, RATIOS[0]);

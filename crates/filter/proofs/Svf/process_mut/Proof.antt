@@ -1,6 +1,5 @@
--- `filter::Svf::process_mut` meets its contract: a walk of its MIR, by hand. The borrow is opened, the filter is copied out and passed to `process` by value, the filter of what `process` returns is stored in the cell, and the borrow is closed at it.
--- All that the proof knows of `process` is that it meets its contract.
--- Assumes nothing.
+-- `filter::Svf::process_mut` meets its contract: a walk of its code by hand. The borrow is opened, the filter is copied out and passed to `process` by value, the filter
+-- that comes back is stored in its place, and the borrow is closed. Of `process` the proof knows only that it meets its contract. Assumes nothing.
 use mathlib.Core.Path.{_≡_, refl, ap}
 use Prim.Native.Nat.{ℕ}
 use mathlib.Core.Bool.{true}
@@ -71,8 +70,8 @@ stayed = (stay-ref (0 ∷ []) tt (plain (λ _. T.the-row)), (stay-none (λ _. f3
 abbrev svf : Svf → Val
 svf = LL.val T.the-type T′.the-laws
 
-abbrev stepped : SvfOutput → Val
-stepped = LL.val S.the-type S′.the-laws
+abbrev returned : SvfOutput → Val
+returned = LL.val S.the-type S′.the-laws
 
 abbrev moded : FilterMode → Val
 moded = EL.val F.the-type F′.the-laws
@@ -103,12 +102,12 @@ module _ {M : Type 1} (𝓤 : URA M) (H : Heap 𝓤) (A : Atoms 𝓤) (W : Given
   said : (r : SvfOutput) → ent 𝓤 (ensured 𝓤 H A process.ended (process.clauses 𝓤 H A at-mem run) tt (h, (n, (m, tt))) tt r) (fact 𝓤 (r ≡ processed h n m))
   said r = exE 𝓤 _ (λ ws. snd∗ 𝓤 (sem 𝓤 H A (lasts process.ended tt (h, (n, (m, tt))) ws)) (fact 𝓤 (r ≡ processed h n m)))
 
-  -- what whoever holds a step knows of its fields
+  -- what is known of the fields of what `process` returns
   filter-is : (r : SvfOutput) (v : Val) → Is S.the-row r (v ∷ []) → Is T.the-row (r .filter) (svf (r .filter) ∷ [])
   filter-is r v is = LL.owed S.the-type S′.the-laws r (v ∷ []) is .0
 
-  sample-fits : (r : SvfOutput) (v : Val) → Is S.the-row r (v ∷ []) → fits binary32 (r .out) ≡ true
-  sample-fits r v is = LL.owed S.the-type S′.the-laws r (v ∷ []) is .1 .0 .1
+  out-fits : (r : SvfOutput) (v : Val) → Is S.the-row r (v ∷ []) → fits binary32 (r .out) ≡ true
+  out-fits r v is = LL.owed S.the-type S′.the-laws r (v ∷ []) is .1 .0 .1
 
   exits : (r : SvfOutput) → r ≡ processed h n m → fits binary32 (r .out) ≡ true
       → ent 𝓤 (sep 𝓤 (A .obs γ (T.the-row .coded .code (r .filter))) (sep 𝓤 (A .bor κ (Body (mem T.the-row) b o γ)) (A .lft κ q))) (Post (vfloat binary32 (r .out)))
@@ -136,17 +135,17 @@ module _ {M : Type 1} (𝓤 : URA M) (H : Heap 𝓤) (A : Atoms 𝓤) (W : Given
         calls-at ! fm (Process 𝓤 H A at-mem run) known to-process (and-then ! (load ! (from ! (stop !)) (look ! 6 refl)) (and-then ! (load ! (from ! (stop !)) (look ! 12 refl)) (and-then ! (load ! (from ! (stop !)) (look ! 10 refl)) (no-more !)))) (λ v.
         use1 W (later (some (λ (r : SvfOutput). (‵ ftrue ⊛ ‵ (S.the-row .own r (v ∷ []))) ⊛ raw (ensured 𝓤 H A process.ended (process.clauses 𝓤 H A at-mem run) tt (h, (n, (m, tt))) tt r)))) (id⊢ 𝓤 _) $ await ! tt $ pick ! (λ r.
         split ! $ move ! (1 ∷ []) $ use1 W (raw (fact 𝓤 (r ≡ processed h n m))) (said r) $ heard ! (r ≡ processed h n m) (λ e. split ! $ drop ! $
-        -- [what the step owns; the struct's cell; what it owns; the open borrow; obs; auth; _5; …; room for _4; …; _3; …; _2; …; _1; …; room for _0; …]
+        -- [what it returned owns; the struct's cell; what it owns; the open borrow; obs; auth; _5; …; room for _4; …; _3; …; _2; …; _1; …; room for _0; …]
         peeks ! S.the-row (Is S.the-row) (shows 𝓤 H A S.the-row) r (v ∷ []) (λ is.
         land ! (from ! (stop !)) (init ! 8 refl (LL.lawful S.the-type S′.the-laws 𝓤 H A W .typed r _ is .0)) $
         rewrite ! 8 (λ (u : Val). ‵ (fat fullShare S′.mir l₄ 0 u)) (ap only (LL.tells S.the-type S′.the-laws r (v ∷ []) is)) refl $
         assigns ! (of-opd ! (load ! (from ! (fld ! refl (stop !))) (look-in ! 8 (sub ! 0 refl (whole !))))) (from ! (hop ! (look ! 14 refl) (stop !))) (store-raw ! 1 refl (LL.lawful T.the-type T′.the-laws 𝓤 H A W .typed (r .filter) _ (filter-is r v is) .0)) $
-        assigns ! (of-opd ! (load ! (from ! (fld ! refl (stop !))) (look-in ! 8 (sub ! 1 refl (whole !))))) (from ! (stop !)) (init ! 16 refl (tt, passes _ (sample-fits r v is))) $
+        assigns ! (of-opd ! (load ! (from ! (fld ! refl (stop !))) (look-in ! 8 (sub ! 1 refl (whole !))))) (from ! (stop !)) (init ! 16 refl (tt, passes _ (out-fits r v is))) $
         drop ! $ move ! (1 ∷ []) $ drop ! $ owned ! T.the-row (Is T.the-row) (LL.makes T.the-type T′.the-plain 𝓤 H A) (r .filter) _ (filter-is r v is) $ move ! (1 ∷ 0 ∷ []) $ closes ! tt T.the-row (r .filter) (svf (r .filter) ∷ []) b o $
         -- [obs; the borrow; the token; _5; …; _4; …; _3; …; _2; …; _1; …; _0; …]
         returns ! (look ! 13 refl) $ forget ! 3 refl $ forget ! 5 refl $ forget ! 7 refl $ forget ! 9 refl $ forget ! 11 refl $ forget ! 13 refl $
         move ! (13 ∷ 14 ∷ []) $ free1 ! $ move ! (11 ∷ 12 ∷ []) $ free1 ! $ move ! (9 ∷ 10 ∷ []) $ free1 ! $ move ! (7 ∷ 8 ∷ []) $ free1 ! $ move ! (5 ∷ 6 ∷ []) $ free1 ! $ move ! (3 ∷ 4 ∷ []) $ free1 ! $ free0 ! $
-        keep ! (0 ∷ 1 ∷ 2 ∷ []) $ by ! (exits r e (sample-fits r v is))))))))))))))
+        keep ! (0 ∷ 1 ∷ 2 ∷ []) $ by ! (exits r e (out-fits r v is))))))))))))))
 
 module _ {M : Type 1} (𝓤 : URA M) (H : Heap 𝓤) (A : Atoms 𝓤) (W : Given 𝓤 H A) (at-mem : Memory → SProp 𝓤) (run : Routine → Fun 𝓤) where
   process-mut-walks : (C : Calls 𝓤 H) (Λ : Loops 𝓤 H) → FmC 𝓤 H (W .laws) C → Triple 𝓤 (C #filter·Svf·process) (Process 𝓤 H A at-mem run) → Walks 𝓤 H A f.ended stayed (WpFn 𝓤 H C Λ code.function) (f.clauses 𝓤 H A at-mem run)

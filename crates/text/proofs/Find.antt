@@ -25,7 +25,7 @@ module _ (s : List ℕ) (i b : ℕ) where
   unfolding indexOf
   search-on h e = rw (drop-cons s i 0 h, ne-eqb (getD s i 0) b e, add-one i) (sym (add-one _))
 
-indexOf-le : (b : ℕ) (l : List ℕ) → indexOf b l ≤ length l
+pub indexOf-le : (b : ℕ) (l : List ℕ) → indexOf b l ≤ length l
 unfolding indexOf
 indexOf-le b [] = omega arith
 indexOf-le b (x ∷ xs) = go (eqb x b) (indexOf-le b xs)

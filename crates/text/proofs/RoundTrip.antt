@@ -120,12 +120,22 @@ pub pattern-back : (n : ℕ) → n < 2 ^ 32 → Read.pattern (Write.pattern n) �
 unfolding Read.pattern Write.pattern
 pattern-back n h = rw (digits-length 16 8 n) (written-digits 16 (omega arith) (omega arith) 8 n 0 ∙ ap Value (rw (zero-mul, zero-add) (mod-eq-of-lt h)))
 
--- ---- decimals that are read
-
--- a decimal that is read has as many digits as are written
+-- ---- numbers that are read
 quotient-zero : (n p : ℕ) → 0 < p → n / p ≡ 0 → n < p
 quotient-zero n p pos e = rw one-mul at (div-lt-iff-lt-mul {x = n} {y = 1} pos .0 (omega arith))
 
+-- eight hexadecimal digits stand for less than 2 ^ 32
+pub eight-digits : (text : List ℕ) → length text ≡ 8 → upTo 4294967295 (numeral 16 0 text) ≡ numeral 16 0 text
+unfolding upTo
+eight-digits text eight = go (numeral 16 0 text) refl
+  where
+    go : (x : Number) → numeral 16 0 text ≡ x → upTo 4294967295 x ≡ x
+    go (Value n) e =
+        let top = rw eight at (read-digits 16 (omega arith) (omega arith) text 0 n e .0) in
+        rw (le-leb n 4294967295 (omega (arith, quotient-zero n (16 ^ 8) (omega arith) top)))
+    go Invalid e = refl
+
+-- a decimal that is read has as many digits as are written
 quotient-some : (n p : ℕ) → 0 < p → 0 < n / p → p ≤ n
 quotient-some n p pos h = rw one-mul at (le-div-iff-mul-le {x = 1} pos .0 h)
 

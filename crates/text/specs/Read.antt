@@ -1,10 +1,10 @@
--- Fields and numbers read from text. Definitions only.
+-- Lines, fields and numbers read from text. Definitions only.
 use Prim.Native.Nat.{ℕ, suc, _+_, _-_, _*_}
 use Prim.Native.Char.{code}
 use mathlib.Core.Bool.{Bool, true, false, not, cond}
 use mathlib.Core.List.{List, [], _∷_}
 use lib.Dec.{ltb, leb, eqb}
-use lib.ListN.{length, getD, take}
+use lib.ListN.{length, getD, take, drop}
 use Rattle.text.specs.declared.read.Number.{Number}
 use Rattle.text.specs.declared.read.Number.the-variants.{Value, Invalid}
 
@@ -18,17 +18,26 @@ ended text = eqb (getD text (length text - 1) 0) (code "\n")
 unfoldable pub body : List ℕ → List ℕ
 body text = take (length text - 1) text
 
+-- x in front of the first of some lists
+unfoldable pub attach : ℕ → List (List ℕ) → List (List ℕ)
+attach x [] = (x ∷ []) ∷ []
+attach x (f ∷ fs) = (x ∷ f) ∷ fs
+
+-- the lines of a text, each with its line end, which the last may lack
+unfoldable pub lines : List ℕ → List (List ℕ)
+lines [] = []
+lines (x ∷ xs) = cond (eqb x (code "\n")) ((x ∷ []) ∷ lines xs) (attach x (lines xs))
+
+-- the line that starts at a place of a text; empty at its end
+unfoldable pub lineAt : ℕ → List ℕ → List ℕ
+lineAt at text = getD (lines (drop at text)) 0 []
+
 -- ---- fields
 
 -- the place of the first b, or the length where there is none
 unfoldable pub indexOf : ℕ → List ℕ → ℕ
 indexOf b [] = 0
 indexOf b (x ∷ xs) = cond (eqb x b) 0 (suc (indexOf b xs))
-
--- x in front of the first of some lists
-unfoldable pub attach : ℕ → List (List ℕ) → List (List ℕ)
-attach x [] = (x ∷ []) ∷ []
-attach x (f ∷ fs) = (x ∷ f) ∷ fs
 
 -- the fields of a line: what stands between its commas, one more than there are commas
 unfoldable pub fields : List ℕ → List (List ℕ)

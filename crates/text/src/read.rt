@@ -1,4 +1,4 @@
-// Fields and numbers read from text.
+// Lines, fields and numbers read from text.
 ghost use mathlib.Core.Path.{_≡_};
 ghost use Prim.Native.Nat.{_+_, _≤_, _<_};
 ghost use lib.ListN.{length, drop};
@@ -43,6 +43,14 @@ fn find(s: &[u8], at: usize, b: u8) -> usize
         i += 1;
     }
     i
+}
+
+// The place after the line that starts at `at`, its line end included; `at` itself where nothing is left.
+pub fn line_end(text: &[u8], at: usize) -> usize
+    ensures { λ r. ⌜ r ≡ at + length (Read.lineAt at (now (text .entry))) ⌝ }
+{
+    let e = find(text, at, b'\n');
+    if e < text.len() { e + 1 } else { e }
 }
 
 pub fn field_count(line: &[u8]) -> usize
@@ -137,6 +145,17 @@ pub fn decimal(text: &[u8], limit: u32) -> Number
 {
     if well_formed(text) {
         numeral(text, 10, limit)
+    } else {
+        Number::Invalid
+    }
+}
+
+// A bit pattern: eight hexadecimal digits in lower case.
+pub fn pattern(text: &[u8]) -> Number
+    ensures { λ r. ⌜ r ≡ Read.pattern (now (text .entry)) ⌝ }
+{
+    if text.len() == 8 {
+        numeral(text, 16, 0xffff_ffff)
     } else {
         Number::Invalid
     }

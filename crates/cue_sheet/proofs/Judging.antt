@@ -1,0 +1,112 @@
+-- The walk over the lines of a sheet, of whoever judges it and of whoever reads an accepted sheet again. Assumes nothing.
+use Prim.Native.Nat.{ℕ, _+_, _-_, _≤_, _<_}
+use native.Mathlib.Nat.{sub-zero}
+use native.Mathlib.Omega.{arith}
+use mathlib.Core.Path.{_≡_, refl, sym, ap, _∙_}
+use mathlib.Core.List.{List, [], _∷_}
+use lib.ListN as List
+use lib.ListN.{take, drop}
+use lib.Seq.{take-nil}
+use Rattle.text.specs.Read.{lines, lineAt, ended}
+use Rattle.text.proofs.Lines.{line-inside, line-next, lines-over}
+use Rattle.cue_sheet.specs.CueLine.{LineAnswer, strike, refused, hasFields, readCue}
+use Rattle.cue_sheet.specs.Sheet.{SheetAnswer, accepted, refusedAt, readFirstLine, onLine, judgeLines, onFirst, judgeAll, judge, Strike, strikesOf, strikes}
+use Rattle.cue_sheet.specs.declared.Cue.{Cue}
+use Rattle.cue_sheet.specs.declared.FirstLine.{FirstLine}
+use Rattle.cue_sheet.specs.declared.FirstLine.the-variants.{Head, Invalid}
+use Rattle.cue_sheet.proofs.Questions.{Passed, cue-passed}
+
+-- the judgment is that of the lines from place at on, after `cues` cues
+pub record Judging (sheet : List ℕ) (rate length at cues leastStart : ℕ) : Type 0 where
+  pub inside : at ≤ List.length sheet
+  pub few : cues ≤ 64
+  pub left : judge sheet ≡ judgeLines rate length cues leastStart (lines (drop at sheet))
+
+not-accepted : {C : Type 0} {n line rate length cues : ℕ} → refusedAt n line ≡ accepted rate length cues → C
+not-accepted h = let z : _≡_ {A = ℕ} 0 1 = cc in absurd (omega arith)
+
+-- the rate and the length of an accepted sheet are those that its lines are judged with
+same-head : (r l n leastStart : ℕ) (ls : List (List ℕ)) {rate length cues : ℕ} → judgeLines r l n leastStart ls ≡ accepted rate length cues
+    → (r ≡ rate) × (l ≡ length)
+unfolding judgeLines onLine
+same-head r l n leastStart [] h = (cc, cc)
+same-head r l n leastStart (line ∷ ls) {rate} {length} {cues} h = go (readCue l n leastStart line) (λ start. same-head r l (n + 1) (start + 1) ls) h
+  where
+    go : (x : LineAnswer) → ((start : ℕ) → judgeLines r l (n + 1) (start + 1) ls ≡ accepted rate length cues → (r ≡ rate) × (l ≡ length))
+        → (onLine x (n + 2) λ start. judgeLines r l (n + 1) (start + 1) ls) ≡ accepted rate length cues → (r ≡ rate) × (l ≡ length)
+    go (strike start cue) ih h = ih start h
+    go (refused m) ih h = not-accepted h
+
+-- ---- the first line, which ends at `first`
+empty-inside : (first : ℕ) → first ≡ 0 + List.length (lineAt 0 []) → first ≤ 0
+unfolding lineAt lines
+empty-inside first ends = omega arith
+
+pub first-inside : (sheet : List ℕ) (first : ℕ) → first ≡ 0 + List.length (lineAt 0 sheet) → first ≤ List.length sheet
+first-inside [] first ends = empty-inside first ends
+first-inside (x ∷ xs) first ends = line-inside (x ∷ xs) 0 first ends (omega arith)
+
+from-first : List ℕ → ℕ → SheetAnswer
+from-first sheet first = onFirst (readFirstLine (take first sheet)) λ rate length. judgeLines rate length 0 0 (lines (drop first sheet))
+
+empty-judged : (first : ℕ) → judge [] ≡ from-first [] first
+unfolding judge judgeAll lines from-first onFirst readFirstLine hasFields ended
+empty-judged first = rw (take-nil first)
+
+judged : (sheet : List ℕ) (first : ℕ) → first ≡ 0 + List.length (lineAt 0 sheet) → judge sheet ≡ from-first sheet first
+unfolding judge judgeAll from-first
+judged [] first ends = empty-judged first
+judged (x ∷ xs) first ends = rw (line-next (x ∷ xs) 0 first ends (omega arith), sub-zero first)
+
+module _ (sheet : List ℕ) (first : ℕ) (ends : first ≡ 0 + List.length (lineAt 0 sheet)) where
+  pub first-refused : readFirstLine (take first sheet) ≡ Invalid → refusedAt 7 1 ≡ judge sheet
+  unfolding from-first onFirst
+  first-refused h = sym (judged sheet first ends ∙ rw h)
+
+  pub first-read : (rate length : ℕ) → readFirstLine (take first sheet) ≡ Head rate length → Judging sheet rate length first 0 0
+  unfolding from-first onFirst
+  first-read rate length h = record { inside = first-inside sheet first ends; few = omega arith; left = judged sheet first ends ∙ rw h }
+
+  -- of an accepted sheet it need not be read again
+  pub first-accepted : (rate length cues : ℕ) → judge sheet ≡ accepted rate length cues → Judging sheet rate length first 0 0
+  unfolding from-first onFirst
+  first-accepted rate length cues h = go (readFirstLine (take first sheet)) refl
+    where
+      go : (x : FirstLine) → readFirstLine (take first sheet) ≡ x → Judging sheet rate length first 0 0
+      go (Head r l) e =
+          let g = first-read r l e in
+          let same = same-head r l 0 0 (lines (drop first sheet)) (sym (g .left) ∙ h) in
+          rw (same .0, same .1) at g
+      go Invalid e = not-accepted (first-refused e ∙ h)
+
+-- ---- one line after the other: that at `at` ends at `next`
+abbrev pub between : ℕ → ℕ → List ℕ → List ℕ
+between at next sheet = take (next - at) (drop at sheet)
+
+module _ {sheet : List ℕ} {rate length at cues leastStart : ℕ} (g : Judging sheet rate length at cues leastStart)
+    (next : ℕ) (ends : next ≡ at + List.length (lineAt at sheet)) (more : at < List.length sheet) where
+  pub line-stops : (n : ℕ) → readCue length cues leastStart (between at next sheet) ≡ refused n → refusedAt n (cues + 2) ≡ judge sheet
+  unfolding judgeLines onLine
+  line-stops n h = sym (g .left ∙ rw (line-next sheet at next ends more, h))
+
+  pub line-goes-on : (start : ℕ) (cue : Cue) → readCue length cues leastStart (between at next sheet) ≡ strike start cue → Judging sheet rate length next (cues + 1) (start + 1)
+  unfolding judgeLines onLine
+  line-goes-on start cue h = record {
+    inside = line-inside sheet at next ends more;
+    few = omega (arith, cue-passed length cues leastStart (between at next sheet) h .few);
+    left = g .left ∙ rw (line-next sheet at next ends more, h);
+  }
+
+  -- no line of an accepted sheet is refused
+  pub line-accepted : (total n : ℕ) → judge sheet ≡ accepted rate length total → readCue length cues leastStart (between at next sheet) ≡ refused n → ⊥
+  line-accepted total n h e = not-accepted (line-stops n e ∙ h)
+
+  pub line-listed : (start : ℕ) (cue : Cue) → readCue length cues leastStart (between at next sheet) ≡ strike start cue
+      → strikesOf (lines (drop at sheet)) ≡ record { start = start; cue = cue } ∷ strikesOf (lines (drop next sheet))
+  line-listed start cue h = rw (line-next sheet at next ends more) (cue-passed length cues leastStart (between at next sheet) h .listed (lines (drop next sheet)))
+
+-- ---- the end
+pub all-accepted : {sheet : List ℕ} {rate length at cues leastStart : ℕ} → Judging sheet rate length at cues leastStart → List.length sheet ≤ at
+    → accepted rate length cues ≡ judge sheet
+unfolding judgeLines
+all-accepted {sheet} {at = at} g h = sym (g .left ∙ rw (lines-over sheet at h))

@@ -1,0 +1,4 @@
+pub mod NotANumber
+pub mod Voices
+pub mod Questions
+pub mod Judging

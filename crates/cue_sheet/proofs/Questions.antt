@@ -1,0 +1,132 @@
+-- What the questions of a line show of the cue that it stands for. Assumes nothing.
+use Prim.Native.Nat.{ℕ, zero, suc, _≤_, _<_}
+use native.Mathlib.Omega.{arith}
+use mathlib.Core.Path.{_≡_, refl, sym, ap, _∙_}
+use mathlib.Core.Bool.{Bool, true, false, cond}
+use mathlib.Core.List.{List, _∷_}
+use lib.Dec.{ltb, leb}
+use lib.Ieee.{Float}
+use borrow.Author.Tests.{lt-ltb, ltb-true, leb-true}
+use Rattle.refusal.specs.Refusal.{KnobIn, number, answerNumber, unlessRefused, isFrequency, isUnit}
+use Rattle.refusal.specs.declared.Refusal.{Refusal}
+use Rattle.refusal.specs.declared.Answer.{Answer}
+use Rattle.refusal.specs.declared.Answer.the-variants.{Refused}
+use Rattle.refusal.proofs.Laws.{passed, arm-refused}
+use Rattle.cue_sheet.specs.CueLine.{LineAnswer, strike, refused, float, cueOf, knobsRefusal, fieldsRefusal, readFields, onFields, readCue}
+use Rattle.cue_sheet.specs.Sheet.{Strike, onCue, strikesOf}
+use Rattle.cue_sheet.specs.declared.Cue.{Cue}
+use Rattle.cue_sheet.specs.declared.Cue.the-variants.{Bass, Snare, SyntheticSnare, Hihat}
+use Rattle.cue_sheet.specs.declared.Voice.{Voice}
+use Rattle.cue_sheet.specs.declared.Voice.the-variants as Voice
+use Rattle.cue_sheet.specs.declared.Patterns.{Patterns}
+use Rattle.cue_sheet.specs.declared.CueFields.{CueFields}
+use Rattle.cue_sheet.specs.declared.Fields.{Fields}
+use Rattle.cue_sheet.specs.declared.Fields.the-variants.{Read, Malformed}
+
+-- five knobs that have passed their questions
+pub record KnobsIn (accent f0 a decay c : Float) : Type 0 where
+  pub frequency : isFrequency f0 ≡ true
+  pub accent-in : KnobIn accent
+  pub a-in : KnobIn a
+  pub decay-in : KnobIn decay
+  pub c-in : KnobIn c
+
+abbrev pub KnobsOf : Cue → Type 0
+KnobsOf (Bass accent f0 tone decay attackFmAmount) = KnobsIn accent f0 tone decay attackFmAmount
+KnobsOf (Snare accent f0 tone decay snappy) = KnobsIn accent f0 tone decay snappy
+KnobsOf (SyntheticSnare accent f0 fmAmount decay snappy) = KnobsIn accent f0 fmAmount decay snappy
+KnobsOf (Hihat accent f0 tone decay noisiness) = KnobsIn accent f0 tone decay noisiness
+
+pub knobs-in : (k : Patterns) → knobsRefusal k ≡ 0 → KnobsIn (float (k .accent)) (float (k .f0)) (float (k .a)) (float (k .decay)) (float (k .c))
+unfolding knobsRefusal
+knobs-in k h =
+    let third = passed (isFrequency (float (k .f0))) 3 _ (omega arith) h in
+    let fourth = passed (isUnit (float (k .accent))) 4 _ (omega arith) (third .1) in
+    let a = passed (isUnit (float (k .a))) 5 _ (omega arith) (fourth .1) in
+    let decay = passed (isUnit (float (k .decay))) 5 _ (omega arith) (a .1) in
+    record {
+      frequency = third .0;
+      accent-in = fourth .0;
+      a-in = a .0;
+      decay-in = decay .0;
+      c-in = passed (isUnit (float (k .c))) 5 0 (omega arith) (decay .1) .0;
+    }
+
+cue-knobs : (v : Voice) (k : Patterns) → knobsRefusal k ≡ 0 → KnobsOf (cueOf v k)
+unfolding cueOf
+cue-knobs Voice.Bass k h = knobs-in k h
+cue-knobs Voice.Snare k h = knobs-in k h
+cue-knobs Voice.SyntheticSnare k h = knobs-in k h
+cue-knobs Voice.Hihat k h = knobs-in k h
+
+-- ---- a line by what the code finds out about it
+module _ (length cues leastStart : ℕ) (line : List ℕ) (f : CueFields) (few : cues < 64) (fields : readFields line ≡ Read f) where
+  said : ℕ → LineAnswer
+  said n = unlessRefused n (strike (f .start) (cueOf (f .voice) (f .patterns))) (refused n)
+
+  asked-all : readCue length cues leastStart line ≡ said (fieldsRefusal length leastStart f)
+  unfolding readCue onFields said
+  asked-all = rw (lt-ltb cues 64 few, fields)
+
+  pub line-refused : (a : Answer) (r : Refusal) → answerNumber a ≡ fieldsRefusal length leastStart f → a ≡ Refused r
+      → refused (number r) ≡ readCue length cues leastStart line
+  unfolding said
+  line-refused a r known e =
+      let n : number r ≡ fieldsRefusal length leastStart f = sym (ap answerNumber e) ∙ known in
+      sym (asked-all ∙ arm-refused _ _ a _ known r e ∙ ap refused (sym n))
+
+  pub line-accepted : fieldsRefusal length leastStart f ≡ 0 → strike (f .start) (cueOf (f .voice) (f .patterns)) ≡ readCue length cues leastStart line
+  unfolding said
+  line-accepted h = sym (asked-all ∙ ap said h)
+
+fields-passed : (length leastStart : ℕ) (f : CueFields) → fieldsRefusal length leastStart f ≡ 0
+    → (f .start < length) × (leastStart ≤ f .start) × (knobsRefusal (f .patterns) ≡ 0)
+unfolding fieldsRefusal
+fields-passed length leastStart f h =
+    let below = passed (ltb (f .start) length) 9 _ (omega arith) h in
+    let rising = passed (leb leastStart (f .start)) 9 _ (omega arith) (below .1) in
+    (ltb-true (f .start) length (below .0), leb-true leastStart (f .start) (rising .0), rising .1)
+
+pub knobs-passed : (length leastStart : ℕ) (f : CueFields) → fieldsRefusal length leastStart f ≡ 0 → knobsRefusal (f .patterns) ≡ 0
+knobs-passed length leastStart f h = fields-passed length leastStart f h .2
+
+-- ---- a line that stands for a cue has passed every question
+pub record Passed (length cues leastStart : ℕ) (line : List ℕ) (start : ℕ) (cue : Cue) : Type 0 where
+  pub few : cues < 64
+  pub inside : start < length
+  pub least : leastStart ≤ start
+  pub knobs : KnobsOf cue
+  pub listed : (lines : List (List ℕ)) → strikesOf (line ∷ lines) ≡ record { start = start; cue = cue } ∷ strikesOf lines
+
+pub cue-passed : (length cues leastStart : ℕ) (line : List ℕ) {start : ℕ} {cue : Cue} → readCue length cues leastStart line ≡ strike start cue
+    → Passed length cues leastStart line start cue
+unfolding readCue onFields strikesOf onCue
+cue-passed length cues leastStart line {start} {cue} h = go (ltb cues 64) (readFields line) refl refl h
+  where
+    never : {n : ℕ} → refused n ≡ strike start cue → Passed length cues leastStart line start cue
+    never e = let z : _≡_ {A = ℕ} 0 1 = cc in absurd (omega arith)
+
+    said : CueFields → ℕ → LineAnswer
+    said f n = unlessRefused n (strike (f .start) (cueOf (f .voice) (f .patterns))) (refused n)
+
+    from : (f : CueFields) (n : ℕ) → ltb cues 64 ≡ true → readFields line ≡ Read f → fieldsRefusal length leastStart f ≡ n → said f n ≡ strike start cue
+        → Passed length cues leastStart line start cue
+    from f zero t r q e =
+        let p = fields-passed length leastStart f q in
+        let start-is : f .start ≡ start = cc in
+        let cue-is : cueOf (f .voice) (f .patterns) ≡ cue = cc in
+        record {
+          few = ltb-true cues 64 t;
+          inside = omega (arith, p .0);
+          least = omega (arith, p .1);
+          knobs = rw cue-is at (cue-knobs (f .voice) (f .patterns) (p .2));
+          listed = λ lines. rw (r, start-is, cue-is);
+        }
+    from f (suc n) t r q e = never e
+
+    go : (t : Bool) (x : Fields) → ltb cues 64 ≡ t → readFields line ≡ x
+        → cond t (onFields x λ f. said f (fieldsRefusal length leastStart f)) (refused 10) ≡ strike start cue
+        → Passed length cues leastStart line start cue
+    go true (Read f) t r e = from f (fieldsRefusal length leastStart f) t r refl e
+    go true Malformed t r e = never e
+    go false x t r e = never e

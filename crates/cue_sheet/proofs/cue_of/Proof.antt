@@ -1,0 +1,67 @@
+use Rattle.cue_sheet.proofs.NotANumber.{frequency-number, unit-number}
+use Rattle.cue_sheet.proofs.Questions.{knobs-in}
+use Rattle.cue_sheet.specs.CueLine.{cueOf}
+use borrow.Author.Needs.{needs}
+use Rattle.cue_sheet.proofs.cue_of.Statement.{statement}
+use Rattle.cue_sheet.proofs.cue_of.Tie as tie
+
+float-from-bits-accent : tie.Need-float-from-bits-accent
+float-from-bits-accent c = unit-number _ (knobs-in _ (c .before .pre) .accent-in)
+
+float-from-bits-f0 : tie.Need-float-from-bits-f0
+float-from-bits-f0 c = frequency-number _ (knobs-in _ (c .before .before .pre) .frequency)
+
+float-from-bits-a : tie.Need-float-from-bits-a
+float-from-bits-a c = unit-number _ (knobs-in _ (c .before .before .before .pre) .a-in)
+
+float-from-bits-decay : tie.Need-float-from-bits-decay
+float-from-bits-decay c = unit-number _ (knobs-in _ (c .before .before .before .before .pre) .decay-in)
+
+float-from-bits-c : tie.Need-float-from-bits-c
+float-from-bits-c c = unit-number _ (knobs-in _ (c .before .before .before .before .before .pre) .c-in)
+
+enum-told : tie.Need-enum-told
+enum-told c = search needs
+
+enum-told-2 : tie.Need-enum-told-2
+enum-told-2 c = search needs
+
+enum-told-3 : tie.Need-enum-told-3
+enum-told-3 c = search needs
+
+enum-told-4 : tie.Need-enum-told-4
+enum-told-4 c = search needs
+
+returns : tie.Need-returns
+unfolding cueOf
+returns c = rw (c .enum-told .given .1)
+
+returns-2 : tie.Need-returns-2
+unfolding cueOf
+returns-2 c = rw (c .enum-told2 .given .1)
+
+returns-3 : tie.Need-returns-3
+unfolding cueOf
+returns-3 c = rw (c .enum-told3 .given .1)
+
+returns-4 : tie.Need-returns-4
+unfolding cueOf
+returns-4 c = rw (c .enum-told4 .given .1)
+
+pub cue-of-spec : {M : Type 1} → statement M
+cue-of-spec =
+    tie.close
+    (tie.spec
+    float-from-bits-accent
+    float-from-bits-f0
+    float-from-bits-a
+    float-from-bits-decay
+    float-from-bits-c
+    enum-told
+    enum-told-2
+    enum-told-3
+    enum-told-4
+    returns
+    returns-2
+    returns-3
+    returns-4)

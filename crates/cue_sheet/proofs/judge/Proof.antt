@@ -1,0 +1,113 @@
+use Rattle.cue_sheet.proofs.Judging.{Judging, first-inside, first-refused, first-read, line-stops, line-goes-on, all-accepted}
+use Rattle.cue_sheet.proofs.Questions.{cue-passed}
+use Rattle.text.proofs.Lines.{line-some, line-inside}
+use lib.Seq.{length-take-le}
+use lib.ListN as List
+use mathlib.Core.Path.{sym}
+use native.Mathlib.Omega.{arith}
+use Prim.Native.Nat.{_-_}
+use borrow.Author.Needs.{needs}
+use Rattle.cue_sheet.proofs.judge.Statement.{statement}
+use Rattle.cue_sheet.proofs.judge.Tie as tie
+
+abbrev Inv-loop : tie.InvT-loop
+Inv-loop sheet first rate length at₀ cues₀ least-start₀ at cues least-start = Judging sheet rate length at cues least-start
+
+abbrev μ-loop : tie.MeasureT-loop
+μ-loop sheet first rate length at₀ cues₀ least-start₀ at cues least-start = List.length sheet - at
+
+line-end-requires : tie.Need-line-end-requires Inv-loop μ-loop
+line-end-requires c κs = search needs
+
+slice-aggregate-read-first-line : tie.Need-slice-aggregate-read-first-line Inv-loop μ-loop
+slice-aggregate-read-first-line c = sym (length-take-le _ _ (first-inside _ _ (c .before .line-end .ensures)))
+
+read-first-line-requires : tie.Need-read-first-line-requires Inv-loop μ-loop
+read-first-line-requires c κs = search needs
+
+enum-known-rate : tie.Need-enum-known-rate Inv-loop μ-loop
+enum-known-rate c = search needs
+
+enum-told : tie.Need-enum-told Inv-loop μ-loop
+enum-told c = search needs
+
+returns : tie.Need-returns Inv-loop μ-loop
+returns c = first-refused _ _ (c .before .before .before .before .line-end .ensures) (rw (c .enum-told .given .1) at (sym (c .before .before .read-first-line .ensures)))
+
+loop-holds : tie.Need-loop-holds Inv-loop μ-loop
+loop-holds c = first-read _ _ (c .before .before .before .before .before .line-end .ensures) _ _ (rw (c .before .rate .given .1) at (sym (c .before .before .before .read-first-line .ensures)))
+
+line-end-requires-2 : tie.Need-line-end-requires-2 Inv-loop μ-loop
+line-end-requires-2 c κs = search needs
+
+sub-read-cue : tie.Need-sub-read-cue Inv-loop μ-loop
+sub-read-cue c = search needs
+
+part-read-cue-start : tie.Need-part-read-cue-start Inv-loop μ-loop
+part-read-cue-start c = search needs
+
+part-read-cue-end : tie.Need-part-read-cue-end Inv-loop μ-loop
+part-read-cue-end c = line-inside _ _ _ (c .line-end2 .ensures) (c .before .loop-test .taken)
+
+read-cue-requires : tie.Need-read-cue-requires Inv-loop μ-loop
+read-cue-requires c κs = search needs
+
+enum-known-refusal : tie.Need-enum-known-refusal Inv-loop μ-loop
+enum-known-refusal c = search needs
+
+add-t21 : tie.Need-add-t21 Inv-loop μ-loop
+add-t21 c = omega (arith, c .before .before .before .before .before .before .before .loop .inv .few)
+
+returns-2 : tie.Need-returns-2 Inv-loop μ-loop
+returns-2 c = line-stops (c .before .before .before .before .before .before .before .loop .inv) _ (c .before .before .before .before .before .line-end2 .ensures) (c .before .before .before .before .before .before .loop-test .taken) _ (rw (c .before .refusal .given .1) at (sym (c .before .before .before .read-cue .ensures)))
+
+enum-known-start : tie.Need-enum-known-start Inv-loop μ-loop
+enum-known-start c = search needs
+
+add-least-start : tie.Need-add-least-start Inv-loop μ-loop
+add-least-start c =
+    let passed = cue-passed _ _ _ _ (rw (c .before .start .given .1) at (sym (c .before .before .before .read-cue .ensures))) in
+    omega (arith, passed .inside)
+
+add-cues : tie.Need-add-cues Inv-loop μ-loop
+add-cues c = omega (arith, c .before .before .before .before .before .before .before .loop .inv .few)
+
+loop-less : tie.Need-loop-less Inv-loop μ-loop
+loop-less c =
+    let ends = c .before .before .before .before .before .line-end2 .ensures in
+    let more = c .before .before .before .before .before .before .loop-test .taken in
+    omega (arith, line-some _ _ _ ends more, line-inside _ _ _ ends more)
+
+loop-again : tie.Need-loop-again Inv-loop μ-loop
+loop-again c = line-goes-on (c .before .before .before .before .before .before .before .loop .inv) _ (c .before .before .before .before .before .line-end2 .ensures) (c .before .before .before .before .before .before .loop-test .taken) _ _ (rw (c .before .start .given .1) at (sym (c .before .before .before .read-cue .ensures)))
+
+returns-3 : tie.Need-returns-3 Inv-loop μ-loop
+returns-3 c = all-accepted (c .before .loop .inv) (c .loop-test .left)
+
+pub judge-spec : {M : Type 1} → statement M
+judge-spec =
+    tie.close
+    (tie.spec
+    Inv-loop
+    μ-loop
+    line-end-requires
+    slice-aggregate-read-first-line
+    read-first-line-requires
+    enum-known-rate
+    enum-told
+    returns
+    loop-holds
+    line-end-requires-2
+    sub-read-cue
+    part-read-cue-start
+    part-read-cue-end
+    read-cue-requires
+    enum-known-refusal
+    add-t21
+    returns-2
+    enum-known-start
+    add-least-start
+    add-cues
+    loop-less
+    loop-again
+    returns-3)

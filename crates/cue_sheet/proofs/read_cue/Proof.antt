@@ -1,0 +1,63 @@
+use Rattle.cue_sheet.proofs.Questions.{line-refused, line-accepted, knobs-passed}
+use Rattle.cue_sheet.specs.CueLine.{onFields, readCue}
+use Rattle.refusal.proofs.Laws.{zero-of}
+use borrow.Author.Tests.{le-ltb, lt-ltb}
+use mathlib.Core.Path.{sym, ap, _∙_}
+use borrow.Author.Needs.{needs}
+use Rattle.cue_sheet.proofs.read_cue.Statement.{statement}
+use Rattle.cue_sheet.proofs.read_cue.Tie as tie
+
+returns : tie.Need-returns
+unfolding readCue onFields
+returns c = rw (le-ltb _ _ (c .if1 .taken))
+
+read-fields-requires : tie.Need-read-fields-requires
+read-fields-requires c κs = search needs
+
+enum-known-fields : tie.Need-enum-known-fields
+enum-known-fields c = search needs
+
+enum-told : tie.Need-enum-told
+enum-told c = search needs
+
+returns-2 : tie.Need-returns-2
+unfolding readCue onFields
+returns-2 c = rw (lt-ltb _ _ (c .before .before .before .if1 .left), ← c .before .before .read-fields .ensures, c .enum-told .given .1)
+
+asked-requires : tie.Need-asked-requires
+asked-requires c κs = search needs
+
+enum-known-answer : tie.Need-enum-known-answer
+enum-known-answer c = search needs
+
+enum-told-2 : tie.Need-enum-told-2
+enum-told-2 c = search needs
+
+cue-of-requires : tie.Need-cue-of-requires
+cue-of-requires c κs = knobs-passed _ _ _ (zero-of _ _ (c .before .before .before .asked .ensures) (c .before .enum-told2 .given .1))
+
+returns-3 : tie.Need-returns-3
+returns-3 c =
+    let fields = sym (c .before .before .before .before .before .before .before .read-fields .ensures) ∙ c .before .before .before .before .before .fields .given .1 in
+    line-refused _ _ _ _ _ (c .before .before .before .before .before .before .before .before .if1 .left) fields _ _ (c .before .before .before .asked .ensures) (c .before .answer .given .1)
+
+returns-4 : tie.Need-returns-4
+returns-4 c =
+    let fields = sym (c .before .before .before .before .before .before .before .before .read-fields .ensures) ∙ c .before .before .before .before .before .before .fields .given .1 in
+    rw (c .cue-of .ensures) (line-accepted _ _ _ _ _ (c .before .before .before .before .before .before .before .before .before .if1 .left) fields (zero-of _ _ (c .before .before .before .before .asked .ensures) (c .before .before .enum-told2 .given .1)))
+
+pub read-cue-spec : {M : Type 1} → statement M
+read-cue-spec =
+    tie.close
+    (tie.spec
+    returns
+    read-fields-requires
+    enum-known-fields
+    enum-told
+    returns-2
+    asked-requires
+    enum-known-answer
+    enum-told-2
+    cue-of-requires
+    returns-3
+    returns-4)

@@ -1,0 +1,128 @@
+-- A line of a cue sheet after the first, `start,voice,accent,f0,a,decay,c`: its fields, its cue, and the questions that it must pass. Definitions only.
+use Prim.Native.Nat.{ℕ}
+use Prim.Native.Char.{code}
+use mathlib.Core.Bool.{Bool, cond, _&&_}
+use mathlib.Core.List.{List, [], _∷_}
+use lib.Dec.{ltb, leb, eqb}
+use lib.ListN.{length}
+use lib.Ieee.{Float, binary32, ofBits}
+use Rattle.refusal.specs.Refusal.{number, ask, unlessRefused, isFrequency, isUnit}
+use Rattle.text.specs.Read.{ended, body, fields, field, decimal, pattern}
+use Rattle.text.specs.declared.read.Number.{Number}
+use Rattle.text.specs.declared.read.Number.the-variants.{Value, Invalid}
+use Rattle.cue_sheet.specs.declared.Cue.{Cue}
+use Rattle.cue_sheet.specs.declared.Cue.the-variants as Cue
+use Rattle.cue_sheet.specs.declared.Line.{Line}
+use Rattle.cue_sheet.specs.declared.Line.the-variants as Line
+use Rattle.cue_sheet.specs.declared.Voice.{Voice}
+use Rattle.cue_sheet.specs.declared.Voice.the-variants.{Bass, Snare, SyntheticSnare, Hihat}
+use Rattle.cue_sheet.specs.declared.VoiceField.{VoiceField}
+use Rattle.cue_sheet.specs.declared.VoiceField.the-variants.{Named, Unknown}
+use Rattle.cue_sheet.specs.declared.Patterns.{Patterns}
+use Rattle.cue_sheet.specs.declared.PatternFields.{PatternFields}
+use Rattle.cue_sheet.specs.declared.PatternFields.the-variants as PatternFields
+use Rattle.cue_sheet.specs.declared.CueFields.{CueFields}
+use Rattle.cue_sheet.specs.declared.Fields.{Fields}
+use Rattle.cue_sheet.specs.declared.Fields.the-variants.{Read, Malformed}
+
+-- ---- fields
+
+-- n fields and a line end
+unfoldable pub hasFields : ℕ → List ℕ → Bool
+hasFields n line = ended line && eqb (length (fields (body line))) n
+
+-- what is made of a number that is read, or `other` where there is none
+unfoldable pub onNumber : {A : Type 0} → A → Number → (ℕ → A) → A
+onNumber other (Value n) f = f n
+onNumber other Invalid f = other
+
+-- one of the letters b, s, y and h
+unfoldable pub voiceOf : ℕ → VoiceField
+voiceOf letter =
+    cond (eqb letter (code "b")) (Named Bass)
+    (cond (eqb letter (code "s")) (Named Snare)
+    (cond (eqb letter (code "y")) (Named SyntheticSnare)
+    (cond (eqb letter (code "h")) (Named Hihat)
+    Unknown)))
+
+unfoldable pub readVoice : List ℕ → VoiceField
+readVoice [] = Unknown
+readVoice (letter ∷ []) = voiceOf letter
+readVoice (x ∷ y ∷ zs) = Unknown
+
+unfoldable pub readPatterns : List ℕ → PatternFields
+unfolding onNumber
+readPatterns line =
+    onNumber PatternFields.Malformed (pattern (field 2 line)) λ accent.
+    onNumber PatternFields.Malformed (pattern (field 3 line)) λ f0.
+    onNumber PatternFields.Malformed (pattern (field 4 line)) λ a.
+    onNumber PatternFields.Malformed (pattern (field 5 line)) λ decay.
+    onNumber PatternFields.Malformed (pattern (field 6 line)) λ c.
+    PatternFields.Read (record { accent = accent; f0 = f0; a = a; decay = decay; c = c })
+
+unfoldable pub onVoice : VoiceField → (Voice → Fields) → Fields
+onVoice (Named v) f = f v
+onVoice Unknown f = Malformed
+
+unfoldable pub onPatterns : PatternFields → (Patterns → Fields) → Fields
+onPatterns (PatternFields.Read p) f = f p
+onPatterns PatternFields.Malformed f = Malformed
+
+-- seven well-formed fields and a line end; a start has one to five digits
+unfoldable pub readFields : List ℕ → Fields
+unfolding onNumber onVoice onPatterns
+readFields line =
+    cond (hasFields 7 line)
+    (onNumber Malformed (decimal 99999 (field 0 (body line))) λ start.
+    onVoice (readVoice (field 1 (body line))) λ voice.
+    onPatterns (readPatterns (body line)) λ patterns.
+    Read (record { start = start; voice = voice; patterns = patterns }))
+    Malformed
+
+-- ---- the cue
+abbrev pub float : ℕ → Float
+float bits = ofBits binary32 bits
+
+unfoldable pub cueOf : Voice → Patterns → Cue
+cueOf Bass k = Cue.Bass (float (k .accent)) (float (k .f0)) (float (k .a)) (float (k .decay)) (float (k .c))
+cueOf Snare k = Cue.Snare (float (k .accent)) (float (k .f0)) (float (k .a)) (float (k .decay)) (float (k .c))
+cueOf SyntheticSnare k = Cue.SyntheticSnare (float (k .accent)) (float (k .f0)) (float (k .a)) (float (k .decay)) (float (k .c))
+cueOf Hihat k = Cue.Hihat (float (k .accent)) (float (k .f0)) (float (k .a)) (float (k .decay)) (float (k .c))
+
+-- ---- the questions, each with its number, in their order; 0 where all are passed
+
+unfoldable pub knobsRefusal : Patterns → ℕ
+knobsRefusal k =
+    ask (isFrequency (float (k .f0))) 3
+    (ask (isUnit (float (k .accent))) 4
+    (ask (isUnit (float (k .a))) 5
+    (ask (isUnit (float (k .decay))) 5
+    (ask (isUnit (float (k .c))) 5 0))))
+
+-- the start is below the sheet's length, and not below the least start: 0 for the first cue, and one above the start before for the others
+unfoldable pub fieldsRefusal : ℕ → ℕ → CueFields → ℕ
+fieldsRefusal length leastStart f = ask (ltb (f .start) length) 9 (ask (leb leastStart (f .start)) 9 (knobsRefusal (f .patterns)))
+
+-- ---- what a line says: a cue with its start, or the number of the first question that it does not pass
+pub data LineAnswer : Type 0 where
+  strike : ℕ → Cue → LineAnswer
+  refused : ℕ → LineAnswer
+
+-- each case of the enum
+abbrev pub answer : Line → LineAnswer
+answer (Line.Cue start cue) = strike start cue
+answer (Line.Refused r) = refused (number r)
+
+unfoldable pub onFields : Fields → (CueFields → LineAnswer) → LineAnswer
+onFields (Read f) answers = answers f
+onFields Malformed answers = refused 8
+
+-- a further line, where `cues` cues are read so far
+unfoldable pub readCue : ℕ → ℕ → ℕ → List ℕ → LineAnswer
+unfolding onFields
+readCue length cues leastStart line =
+    cond (ltb cues 64)
+    (onFields (readFields line) λ f.
+    let n = fieldsRefusal length leastStart f in
+    unlessRefused n (strike (f .start) (cueOf (f .voice) (f .patterns))) (refused n))
+    (refused 10)

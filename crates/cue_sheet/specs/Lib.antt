@@ -1,0 +1,2 @@
+pub mod CueLine
+pub mod Sheet

@@ -1,0 +1,157 @@
+//! The four published voices, asked the questions of the scope and then played.
+use crate::row::{Answer, Kind, LINEAR, RESONANCE, Row, SUSTAIN, TRIGGER, TWO_STAGE};
+use crate::state::{digest, pattern, words};
+use mi_plaits_dsp::drums::analog_bass_drum::AnalogBassDrum;
+use mi_plaits_dsp::drums::analog_snare_drum::AnalogSnareDrum;
+use mi_plaits_dsp::drums::hihat::{Hihat, NoiseType, VcaType};
+use mi_plaits_dsp::drums::synthetic_snare_drum::SyntheticSnareDrum;
+use mi_plaits_dsp::utils::random;
+
+pub const LEAST_F0: f32 = 1.0 / 1048576.0;
+
+pub fn is_rate(x: f32) -> bool {
+    (16000.0..=96000.0).contains(&x)
+}
+
+pub fn is_f0(x: f32) -> bool {
+    (LEAST_F0..=0.5).contains(&x)
+}
+
+pub fn is_unit(x: f32) -> bool {
+    (0.0..=1.0).contains(&x)
+}
+
+/// The state of the published noise generator, which can be seeded but not read: the next word is undone.
+pub fn noise_state() -> u32 {
+    const INVERSE: u32 = inverse(1664525);
+    random::get_word().wrapping_sub(1013904223).wrapping_mul(INVERSE)
+}
+
+const fn inverse(a: u32) -> u32 {
+    let mut x = a;
+    let mut i = 0;
+    while i < 5 {
+        x = x.wrapping_mul(2u32.wrapping_sub(a.wrapping_mul(x)));
+        i += 1;
+    }
+    x
+}
+
+/// The voices, each with the rate of its last accepted init; 0.0 in a record with every field zero.
+#[derive(Default)]
+pub struct Voices {
+    pub b: AnalogBassDrum,
+    pub s: AnalogSnareDrum,
+    pub y: SyntheticSnareDrum,
+    pub h: Hihat,
+    y_rate: f32,
+    h_rate: f32,
+}
+
+impl Voices {
+    pub fn play(&mut self, row: &Row) -> Answer {
+        let refusal = self.refusal(row);
+        let mut out = vec![0.0; row.samples as usize];
+        let mut answer = Answer { refusal, noise: row.noise, samples: digest([]), state: 0 };
+        if refusal == 0 {
+            match row.kind {
+                Kind::Zero => self.clear(row.voice),
+                Kind::Init => self.init(row.voice, row.knobs[0]),
+                Kind::Render => {
+                    random::seed(row.noise);
+                    self.render(row, &mut out);
+                    answer.noise = noise_state();
+                    answer.samples = digest(out.iter().map(|x| pattern(*x)));
+                }
+            }
+        }
+        answer.state = digest(self.state(row.voice));
+        answer
+    }
+
+    /// The number of the first question that the call does not pass; 0 where it passes all.
+    fn refusal(&self, row: &Row) -> u32 {
+        let [accent, f0, a, decay, c, self_fm_amount] = row.knobs;
+        let stored = match row.voice {
+            'y' => Some(self.y_rate),
+            'h' => Some(self.h_rate),
+            _ => None,
+        };
+        match row.kind {
+            Kind::Zero => 0,
+            Kind::Init => u32::from(!is_rate(row.knobs[0])),
+            Kind::Render if stored.is_some_and(|rate| !is_rate(rate)) => 1,
+            Kind::Render if row.samples > 16384 => 2,
+            Kind::Render if !is_f0(f0) => 3,
+            Kind::Render if !is_unit(accent) => 4,
+            Kind::Render if ![a, decay, c].into_iter().all(is_unit) => 5,
+            Kind::Render if row.voice == 'b' && !is_unit(self_fm_amount) => 5,
+            Kind::Render => 0,
+        }
+    }
+
+    fn clear(&mut self, voice: char) {
+        match voice {
+            'b' => self.b = AnalogBassDrum::new(),
+            's' => self.s = AnalogSnareDrum::new(),
+            'y' => (self.y, self.y_rate) = (SyntheticSnareDrum::new(), 0.0),
+            _ => (self.h, self.h_rate) = (Hihat::new(), 0.0),
+        }
+    }
+
+    pub fn init(&mut self, voice: char, rate: f32) {
+        match voice {
+            'b' => self.b.init(rate),
+            's' => self.s.init(rate),
+            'y' => {
+                self.y.init(rate);
+                self.y_rate = rate;
+            }
+            _ => {
+                self.h.init(rate);
+                self.h_rate = rate;
+            }
+        }
+    }
+
+    pub fn render(&mut self, row: &Row, out: &mut [f32]) {
+        let [accent, f0, a, decay, c, self_fm_amount] = row.knobs;
+        let (sustain, trigger) = (row.flag(SUSTAIN), row.flag(TRIGGER));
+        match row.voice {
+            'b' => self.b.render(false, trigger, accent, f0, a, decay, c, self_fm_amount, out),
+            's' => self.s.render(false, trigger, accent, f0, a, decay, c, out),
+            'y' => self.y.render(sustain, trigger, accent, f0, a, decay, c, out),
+            _ => {
+                let mut temp_1 = vec![0.0; out.len()];
+                let mut temp_2 = vec![0.0; out.len()];
+                let vca = if row.flag(LINEAR) { VcaType::Linear } else { VcaType::Swing };
+                self.h.render(
+                    sustain,
+                    trigger,
+                    accent,
+                    f0,
+                    a,
+                    decay,
+                    c,
+                    &mut temp_1,
+                    &mut temp_2,
+                    out,
+                    NoiseType::Square,
+                    vca,
+                    row.flag(RESONANCE),
+                    row.flag(TWO_STAGE),
+                );
+            }
+        }
+    }
+
+    /// The fields in the order of their declaration, without those that the port leaves out.
+    fn state(&self, voice: char) -> Vec<u32> {
+        match voice {
+            'b' => words(&format!("{:?}", self.b), &["sustain_gain", "oscillator"]),
+            's' => words(&format!("{:?}", self.s), &["sustain_gain", "oscillator"]),
+            'y' => words(&format!("{:?}", self.y), &[]),
+            _ => words(&format!("{:?}", self.h), &["ring_mod_noise"]),
+        }
+    }
+}

@@ -6,7 +6,7 @@ use mathlib.Core.Path.{_≡_, refl, sym, ap, _∙_}
 use mathlib.Core.List.{List, [], _∷_}
 use lib.ListN as List
 use lib.ListN.{take, drop}
-use lib.Seq.{take-nil}
+use lib.Seq.{take-nil, drop-nil}
 use Rattle.text.specs.Read.{lines, lineAt, ended}
 use Rattle.text.proofs.Lines.{line-inside, line-next, lines-over}
 use Rattle.cue_sheet.specs.CueLine.{LineAnswer, strike, refused, hasFields, readCue}
@@ -53,6 +53,10 @@ empty-judged : (first : ℕ) → judge [] ≡ from-first [] first
 unfolding judge judgeAll lines from-first onFirst readFirstLine hasFields ended
 empty-judged first = rw (take-nil first)
 
+empty-listed : (first : ℕ) → strikesOf (drop 1 (lines [])) ≡ strikesOf (lines (drop first []))
+unfolding lines
+empty-listed first = rw (drop-nil first)
+
 judged : (sheet : List ℕ) (first : ℕ) → first ≡ 0 + List.length (lineAt 0 sheet) → judge sheet ≡ from-first sheet first
 unfolding judge judgeAll from-first
 judged [] first ends = empty-judged first
@@ -67,7 +71,7 @@ module _ (sheet : List ℕ) (first : ℕ) (ends : first ≡ 0 + List.length (lin
   unfolding from-first onFirst
   first-read rate length h = record { inside = first-inside sheet first ends; few = omega arith; left = judged sheet first ends ∙ rw h }
 
-  -- of an accepted sheet it need not be read again
+  -- the first line of an accepted sheet need not be read again
   pub first-accepted : (rate length cues : ℕ) → judge sheet ≡ accepted rate length cues → Judging sheet rate length first 0 0
   unfolding from-first onFirst
   first-accepted rate length cues h = go (readFirstLine (take first sheet)) refl
@@ -78,6 +82,14 @@ module _ (sheet : List ℕ) (first : ℕ) (ends : first ≡ 0 + List.length (lin
           let same = same-head r l 0 0 (lines (drop first sheet)) (sym (g .left) ∙ h) in
           rw (same .0, same .1) at g
       go Invalid e = not-accepted (first-refused e ∙ h)
+
+  pub first-listed : strikes sheet ≡ strikesOf (lines (drop first sheet))
+  unfolding strikes
+  first-listed = rest sheet ends
+    where
+      rest : (sheet : List ℕ) → first ≡ 0 + List.length (lineAt 0 sheet) → strikesOf (drop 1 (lines sheet)) ≡ strikesOf (lines (drop first sheet))
+      rest [] ends = empty-listed first
+      rest (x ∷ xs) ends = rw (line-next (x ∷ xs) 0 first ends (omega arith))
 
 -- ---- one line after the other: that at `at` ends at `next`
 abbrev pub between : ℕ → ℕ → List ℕ → List ℕ
@@ -98,14 +110,18 @@ module _ {sheet : List ℕ} {rate length at cues leastStart : ℕ} (g : Judging 
   }
 
   -- no line of an accepted sheet is refused
-  pub line-accepted : (total n : ℕ) → judge sheet ≡ accepted rate length total → readCue length cues leastStart (between at next sheet) ≡ refused n → ⊥
-  line-accepted total n h e = not-accepted (line-stops n e ∙ h)
+  pub never-refused : (total n : ℕ) → judge sheet ≡ accepted rate length total → readCue length cues leastStart (between at next sheet) ≡ refused n → ⊥
+  never-refused total n h e = not-accepted (line-stops n e ∙ h)
 
   pub line-listed : (start : ℕ) (cue : Cue) → readCue length cues leastStart (between at next sheet) ≡ strike start cue
       → strikesOf (lines (drop at sheet)) ≡ record { start = start; cue = cue } ∷ strikesOf (lines (drop next sheet))
   line-listed start cue h = rw (line-next sheet at next ends more) (cue-passed length cues leastStart (between at next sheet) h .listed (lines (drop next sheet)))
 
 -- ---- the end
+pub none-listed : (sheet : List ℕ) (at : ℕ) → List.length sheet ≤ at → strikesOf (lines (drop at sheet)) ≡ []
+unfolding strikesOf
+none-listed sheet at h = rw (lines-over sheet at h)
+
 pub all-accepted : {sheet : List ℕ} {rate length at cues leastStart : ℕ} → Judging sheet rate length at cues leastStart → List.length sheet ≤ at
     → accepted rate length cues ≡ judge sheet
 unfolding judgeLines

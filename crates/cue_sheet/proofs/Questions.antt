@@ -7,12 +7,12 @@ use mathlib.Core.List.{List, _∷_}
 use lib.Dec.{ltb, leb}
 use lib.Ieee.{Float}
 use borrow.Author.Tests.{lt-ltb, ltb-true, leb-true}
-use Rattle.refusal.specs.Refusal.{KnobIn, number, answerNumber, unlessRefused, isFrequency, isUnit}
+use Rattle.refusal.specs.Refusal.{KnobIn, number, answerNumber, isFrequency, isUnit}
 use Rattle.refusal.specs.declared.Refusal.{Refusal}
 use Rattle.refusal.specs.declared.Answer.{Answer}
 use Rattle.refusal.specs.declared.Answer.the-variants.{Refused}
 use Rattle.refusal.proofs.Laws.{passed, arm-refused}
-use Rattle.cue_sheet.specs.CueLine.{LineAnswer, strike, refused, float, cueOf, knobsRefusal, fieldsRefusal, readFields, onFields, readCue}
+use Rattle.cue_sheet.specs.CueLine.{strike, refused, answered, float, cueOf, knobsRefusal, fieldsRefusal, readFields, onFields, readCue}
 use Rattle.cue_sheet.specs.Sheet.{Strike, onCue, strikesOf}
 use Rattle.cue_sheet.specs.declared.Cue.{Cue}
 use Rattle.cue_sheet.specs.declared.Cue.the-variants.{Bass, Snare, SyntheticSnare, Hihat}
@@ -61,23 +61,18 @@ cue-knobs Voice.Hihat k h = knobs-in k h
 
 -- ---- a line by what the code finds out about it
 module _ (length cues leastStart : ℕ) (line : List ℕ) (f : CueFields) (few : cues < 64) (fields : readFields line ≡ Read f) where
-  said : ℕ → LineAnswer
-  said n = unlessRefused n (strike (f .start) (cueOf (f .voice) (f .patterns))) (refused n)
-
-  asked-all : readCue length cues leastStart line ≡ said (fieldsRefusal length leastStart f)
-  unfolding readCue onFields said
+  asked-all : readCue length cues leastStart line ≡ answered f (fieldsRefusal length leastStart f)
+  unfolding readCue onFields
   asked-all = rw (lt-ltb cues 64 few, fields)
 
   pub line-refused : (a : Answer) (r : Refusal) → answerNumber a ≡ fieldsRefusal length leastStart f → a ≡ Refused r
       → refused (number r) ≡ readCue length cues leastStart line
-  unfolding said
   line-refused a r known e =
       let n : number r ≡ fieldsRefusal length leastStart f = sym (ap answerNumber e) ∙ known in
       sym (asked-all ∙ arm-refused _ _ a _ known r e ∙ ap refused (sym n))
 
   pub line-accepted : fieldsRefusal length leastStart f ≡ 0 → strike (f .start) (cueOf (f .voice) (f .patterns)) ≡ readCue length cues leastStart line
-  unfolding said
-  line-accepted h = sym (asked-all ∙ ap said h)
+  line-accepted h = sym (asked-all ∙ ap (answered f) h)
 
 fields-passed : (length leastStart : ℕ) (f : CueFields) → fieldsRefusal length leastStart f ≡ 0
     → (f .start < length) × (leastStart ≤ f .start) × (knobsRefusal (f .patterns) ≡ 0)
@@ -106,10 +101,7 @@ cue-passed length cues leastStart line {start} {cue} h = go (ltb cues 64) (readF
     never : {n : ℕ} → refused n ≡ strike start cue → Passed length cues leastStart line start cue
     never e = let z : _≡_ {A = ℕ} 0 1 = cc in absurd (omega arith)
 
-    said : CueFields → ℕ → LineAnswer
-    said f n = unlessRefused n (strike (f .start) (cueOf (f .voice) (f .patterns))) (refused n)
-
-    from : (f : CueFields) (n : ℕ) → ltb cues 64 ≡ true → readFields line ≡ Read f → fieldsRefusal length leastStart f ≡ n → said f n ≡ strike start cue
+    from : (f : CueFields) (n : ℕ) → ltb cues 64 ≡ true → readFields line ≡ Read f → fieldsRefusal length leastStart f ≡ n → answered f n ≡ strike start cue
         → Passed length cues leastStart line start cue
     from f zero t r q e =
         let p = fields-passed length leastStart f q in
@@ -125,7 +117,7 @@ cue-passed length cues leastStart line {start} {cue} h = go (ltb cues 64) (readF
     from f (suc n) t r q e = never e
 
     go : (t : Bool) (x : Fields) → ltb cues 64 ≡ t → readFields line ≡ x
-        → cond t (onFields x λ f. said f (fieldsRefusal length leastStart f)) (refused 10) ≡ strike start cue
+        → cond t (onFields x λ f. answered f (fieldsRefusal length leastStart f)) (refused 10) ≡ strike start cue
         → Passed length cues leastStart line start cue
     go true (Read f) t r e = from f (fieldsRefusal length leastStart f) t r refl e
     go true Malformed t r e = never e

@@ -113,16 +113,18 @@ abbrev pub answer : Line → LineAnswer
 answer (Line.Cue start cue) = strike start cue
 answer (Line.Refused r) = refused (number r)
 
+-- what fields say, by the number of the question that they do not pass
+abbrev pub answered : CueFields → ℕ → LineAnswer
+answered f n = unlessRefused n (strike (f .start) (cueOf (f .voice) (f .patterns))) (refused n)
+
 unfoldable pub onFields : Fields → (CueFields → LineAnswer) → LineAnswer
 onFields (Read f) answers = answers f
 onFields Malformed answers = refused 8
 
--- a further line, where `cues` cues are read so far
+-- a line after the first, where `cues` cues are read so far
 unfoldable pub readCue : ℕ → ℕ → ℕ → List ℕ → LineAnswer
 unfolding onFields
 readCue length cues leastStart line =
     cond (ltb cues 64)
-    (onFields (readFields line) λ f.
-    let n = fieldsRefusal length leastStart f in
-    unlessRefused n (strike (f .start) (cueOf (f .voice) (f .patterns))) (refused n))
+    (onFields (readFields line) λ f. answered f (fieldsRefusal length leastStart f))
     (refused 10)

@@ -1,3 +1,4 @@
+-- `cue_sheet::asked` meets its contract. Assumes nothing.
 use Rattle.cue_sheet.specs.CueLine.{fieldsRefusal}
 use borrow.Author.Needs.{needs}
 use Rattle.cue_sheet.proofs.asked.Statement.{statement}

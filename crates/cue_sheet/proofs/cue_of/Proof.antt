@@ -1,3 +1,4 @@
+-- `cue_sheet::cue_of` meets its contract: the questions have shown that no pattern is that of a not-a-number. Assumes nothing.
 use Rattle.cue_sheet.proofs.NotANumber.{frequency-number, unit-number}
 use Rattle.cue_sheet.proofs.Questions.{knobs-in}
 use Rattle.cue_sheet.specs.CueLine.{cueOf}

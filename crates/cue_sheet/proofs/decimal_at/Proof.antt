@@ -1,3 +1,4 @@
+-- `cue_sheet::decimal_at` meets its contract. Assumes nothing.
 use borrow.Author.Needs.{needs}
 use Rattle.cue_sheet.proofs.decimal_at.Statement.{statement}
 use Rattle.cue_sheet.proofs.decimal_at.Tie as tie

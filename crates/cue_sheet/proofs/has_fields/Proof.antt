@@ -1,3 +1,4 @@
+-- `cue_sheet::has_fields` meets its contract. Assumes nothing.
 use Rattle.cue_sheet.specs.CueLine.{hasFields}
 use borrow.Author.Needs.{needs}
 use Rattle.cue_sheet.proofs.has_fields.Statement.{statement}

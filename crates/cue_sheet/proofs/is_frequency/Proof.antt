@@ -1,3 +1,4 @@
+-- `cue_sheet::is_frequency` meets its contract. Assumes nothing.
 use Rattle.cue_sheet.proofs.NotANumber.{made, nan-read, nan-frequency}
 use borrow.Author.Needs.{needs}
 use Rattle.cue_sheet.proofs.is_frequency.Statement.{statement}

@@ -1,3 +1,4 @@
+-- `cue_sheet::is_number` meets its contract. Assumes nothing.
 use Rattle.cue_sheet.proofs.NotANumber.{number-bits}
 use Rattle.cue_sheet.proofs.is_number.Statement.{statement}
 use Rattle.cue_sheet.proofs.is_number.Tie as tie

@@ -1,3 +1,4 @@
+-- `cue_sheet::is_unit` meets its contract. Assumes nothing.
 use Rattle.cue_sheet.proofs.NotANumber.{made, nan-read, nan-unit}
 use borrow.Author.Needs.{needs}
 use Rattle.cue_sheet.proofs.is_unit.Statement.{statement}

@@ -1,11 +1,12 @@
-use Rattle.cue_sheet.proofs.Judging.{Judging, first-inside, first-refused, first-read, line-stops, line-goes-on, all-accepted}
-use Rattle.cue_sheet.proofs.Questions.{cue-passed}
-use Rattle.text.proofs.Lines.{line-some, line-inside}
-use lib.Seq.{length-take-le}
-use lib.ListN as List
-use mathlib.Core.Path.{sym}
-use native.Mathlib.Omega.{arith}
+-- `cue_sheet::judge` meets its contract. Assumes nothing.
 use Prim.Native.Nat.{_-_}
+use native.Mathlib.Omega.{arith}
+use mathlib.Core.Path.{sym}
+use lib.ListN as List
+use lib.Seq.{length-take-le}
+use Rattle.text.proofs.Lines.{line-some, line-inside}
+use Rattle.cue_sheet.proofs.Questions.{cue-passed}
+use Rattle.cue_sheet.proofs.Judging.{Judging, first-inside, first-refused, first-read, line-stops, line-goes-on, all-accepted}
 use borrow.Author.Needs.{needs}
 use Rattle.cue_sheet.proofs.judge.Statement.{statement}
 use Rattle.cue_sheet.proofs.judge.Tie as tie
@@ -32,10 +33,14 @@ enum-told : tie.Need-enum-told Inv-loop μ-loop
 enum-told c = search needs
 
 returns : tie.Need-returns Inv-loop μ-loop
-returns c = first-refused _ _ (c .before .before .before .before .line-end .ensures) (rw (c .enum-told .given .1) at (sym (c .before .before .read-first-line .ensures)))
+returns c =
+    let invalid = rw (c .enum-told .given .1) at (sym (c .before .before .read-first-line .ensures)) in
+    first-refused _ _ (c .before .before .before .before .line-end .ensures) invalid
 
 loop-holds : tie.Need-loop-holds Inv-loop μ-loop
-loop-holds c = first-read _ _ (c .before .before .before .before .before .line-end .ensures) _ _ (rw (c .before .rate .given .1) at (sym (c .before .before .before .read-first-line .ensures)))
+loop-holds c =
+    let head = rw (c .before .rate .given .1) at (sym (c .before .before .before .read-first-line .ensures)) in
+    first-read _ _ (c .before .before .before .before .before .line-end .ensures) _ _ head
 
 line-end-requires-2 : tie.Need-line-end-requires-2 Inv-loop μ-loop
 line-end-requires-2 c κs = search needs
@@ -59,15 +64,18 @@ add-t21 : tie.Need-add-t21 Inv-loop μ-loop
 add-t21 c = omega (arith, c .before .before .before .before .before .before .before .loop .inv .few)
 
 returns-2 : tie.Need-returns-2 Inv-loop μ-loop
-returns-2 c = line-stops (c .before .before .before .before .before .before .before .loop .inv) _ (c .before .before .before .before .before .line-end2 .ensures) (c .before .before .before .before .before .before .loop-test .taken) _ (rw (c .before .refusal .given .1) at (sym (c .before .before .before .read-cue .ensures)))
+returns-2 c =
+    let line = c .before .before .before .before .before in
+    let refusal = rw (c .before .refusal .given .1) at (sym (c .before .before .before .read-cue .ensures)) in
+    line-stops (line .before .before .loop .inv) _ (line .line-end2 .ensures) (line .before .loop-test .taken) _ refusal
 
 enum-known-start : tie.Need-enum-known-start Inv-loop μ-loop
 enum-known-start c = search needs
 
 add-least-start : tie.Need-add-least-start Inv-loop μ-loop
 add-least-start c =
-    let passed = cue-passed _ _ _ _ (rw (c .before .start .given .1) at (sym (c .before .before .before .read-cue .ensures))) in
-    omega (arith, passed .inside)
+    let cue = rw (c .before .start .given .1) at (sym (c .before .before .before .read-cue .ensures)) in
+    omega (arith, cue-passed _ _ _ _ cue .inside)
 
 add-cues : tie.Need-add-cues Inv-loop μ-loop
 add-cues c = omega (arith, c .before .before .before .before .before .before .before .loop .inv .few)
@@ -79,7 +87,10 @@ loop-less c =
     omega (arith, line-some _ _ _ ends more, line-inside _ _ _ ends more)
 
 loop-again : tie.Need-loop-again Inv-loop μ-loop
-loop-again c = line-goes-on (c .before .before .before .before .before .before .before .loop .inv) _ (c .before .before .before .before .before .line-end2 .ensures) (c .before .before .before .before .before .before .loop-test .taken) _ _ (rw (c .before .start .given .1) at (sym (c .before .before .before .read-cue .ensures)))
+loop-again c =
+    let line = c .before .before .before .before .before in
+    let cue = rw (c .before .start .given .1) at (sym (c .before .before .before .read-cue .ensures)) in
+    line-goes-on (line .before .before .loop .inv) _ (line .line-end2 .ensures) (line .before .loop-test .taken) _ _ cue
 
 returns-3 : tie.Need-returns-3 Inv-loop μ-loop
 returns-3 c = all-accepted (c .before .loop .inv) (c .loop-test .left)

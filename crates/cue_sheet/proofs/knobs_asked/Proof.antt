@@ -1,3 +1,4 @@
+-- `cue_sheet::knobs_asked` meets its contract. Assumes nothing.
 use Rattle.cue_sheet.specs.CueLine.{knobsRefusal}
 use borrow.Author.Needs.{needs}
 use Rattle.cue_sheet.proofs.knobs_asked.Statement.{statement}

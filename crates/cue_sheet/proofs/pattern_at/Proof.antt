@@ -1,3 +1,4 @@
+-- `cue_sheet::pattern_at` meets its contract. Assumes nothing.
 use borrow.Author.Needs.{needs}
 use Rattle.cue_sheet.proofs.pattern_at.Statement.{statement}
 use Rattle.cue_sheet.proofs.pattern_at.Tie as tie

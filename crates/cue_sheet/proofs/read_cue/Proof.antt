@@ -1,8 +1,9 @@
-use Rattle.cue_sheet.proofs.Questions.{line-refused, line-accepted, knobs-passed}
-use Rattle.cue_sheet.specs.CueLine.{onFields, readCue}
-use Rattle.refusal.proofs.Laws.{zero-of}
+-- `cue_sheet::read_cue` meets its contract. Assumes nothing.
+use mathlib.Core.Path.{sym, _∙_}
 use borrow.Author.Tests.{le-ltb, lt-ltb}
-use mathlib.Core.Path.{sym, ap, _∙_}
+use Rattle.refusal.proofs.Laws.{zero-of}
+use Rattle.cue_sheet.specs.CueLine.{onFields, readCue}
+use Rattle.cue_sheet.proofs.Questions.{knobs-passed, line-refused, line-accepted}
 use borrow.Author.Needs.{needs}
 use Rattle.cue_sheet.proofs.read_cue.Statement.{statement}
 use Rattle.cue_sheet.proofs.read_cue.Tie as tie
@@ -38,13 +39,16 @@ cue-of-requires c κs = knobs-passed _ _ _ (zero-of _ _ (c .before .before .befo
 
 returns-3 : tie.Need-returns-3
 returns-3 c =
-    let fields = sym (c .before .before .before .before .before .before .before .read-fields .ensures) ∙ c .before .before .before .before .before .fields .given .1 in
-    line-refused _ _ _ _ _ (c .before .before .before .before .before .before .before .before .if1 .left) fields _ _ (c .before .before .before .asked .ensures) (c .before .answer .given .1)
+    let fields = c .before .before .before .before .before in
+    let read = sym (fields .before .before .read-fields .ensures) ∙ fields .fields .given .1 in
+    line-refused _ _ _ _ _ (fields .before .before .before .if1 .left) read _ _ (c .before .before .before .asked .ensures) (c .before .answer .given .1)
 
 returns-4 : tie.Need-returns-4
 returns-4 c =
-    let fields = sym (c .before .before .before .before .before .before .before .before .read-fields .ensures) ∙ c .before .before .before .before .before .before .fields .given .1 in
-    rw (c .cue-of .ensures) (line-accepted _ _ _ _ _ (c .before .before .before .before .before .before .before .before .before .if1 .left) fields (zero-of _ _ (c .before .before .before .before .asked .ensures) (c .before .before .enum-told2 .given .1)))
+    let fields = c .before .before .before .before .before .before in
+    let read = sym (fields .before .before .read-fields .ensures) ∙ fields .fields .given .1 in
+    let accepted = zero-of _ _ (c .before .before .before .before .asked .ensures) (c .before .before .enum-told2 .given .1) in
+    rw (c .cue-of .ensures) (line-accepted _ _ _ _ _ (fields .before .before .before .if1 .left) read accepted)
 
 pub read-cue-spec : {M : Type 1} → statement M
 read-cue-spec =

@@ -1,5 +1,6 @@
-use Rattle.cue_sheet.specs.CueLine.{onNumber, onVoice, onPatterns, readFields}
+-- `cue_sheet::read_fields` meets its contract. Assumes nothing.
 use borrow.Author.Tests.{not-true, not-false}
+use Rattle.cue_sheet.specs.CueLine.{onNumber, onVoice, onPatterns, readFields}
 use borrow.Author.Needs.{needs}
 use Rattle.cue_sheet.proofs.read_fields.Statement.{statement}
 use Rattle.cue_sheet.proofs.read_fields.Tie as tie
@@ -49,12 +50,13 @@ enum-told-2 c = search needs
 returns-3 : tie.Need-returns-3
 unfolding readFields onNumber onVoice onPatterns
 returns-3 c =
+    let start = c .before .before .before .before .before in
     rw (
-      ← c .before .before .before .before .before .before .before .before .before .before .has-fields .ensures,
-      not-false (c .before .before .before .before .before .before .before .before .before .before .has-fields .result) (c .before .before .before .before .before .before .before .before .before .if1 .left),
-      ← c .before .before .before .before .before .before .before .before .body .ensures,
-      ← c .before .before .before .before .before .before .before .decimal-at .ensures,
-      c .before .before .before .before .before .start .given .1,
+      ← start .before .before .before .before .before .has-fields .ensures,
+      not-false (start .before .before .before .before .before .has-fields .result) (start .before .before .before .before .if1 .left),
+      ← start .before .before .before .body .ensures,
+      ← start .before .before .decimal-at .ensures,
+      start .start .given .1,
       ← c .before .before .before .field .ensures,
       ← c .before .before .read-voice .ensures,
       c .enum-told2 .given .1,
@@ -72,15 +74,17 @@ enum-told-3 c = search needs
 returns-4 : tie.Need-returns-4
 unfolding readFields onNumber onVoice onPatterns
 returns-4 c =
+    let voice = c .before .before .before .before in
+    let start = voice .before .before .before .before .before in
     rw (
-      ← c .before .before .before .before .before .before .before .before .before .before .before .before .before .before .has-fields .ensures,
-      not-false (c .before .before .before .before .before .before .before .before .before .before .before .before .before .before .has-fields .result) (c .before .before .before .before .before .before .before .before .before .before .before .before .before .if1 .left),
-      ← c .before .before .before .before .before .before .before .before .before .before .before .before .body .ensures,
-      ← c .before .before .before .before .before .before .before .before .before .before .before .decimal-at .ensures,
-      c .before .before .before .before .before .before .before .before .before .start .given .1,
-      ← c .before .before .before .before .before .before .before .field .ensures,
-      ← c .before .before .before .before .before .before .read-voice .ensures,
-      c .before .before .before .before .voice .given .1,
+      ← start .before .before .before .before .before .has-fields .ensures,
+      not-false (start .before .before .before .before .before .has-fields .result) (start .before .before .before .before .if1 .left),
+      ← start .before .before .before .body .ensures,
+      ← start .before .before .decimal-at .ensures,
+      start .start .given .1,
+      ← voice .before .before .before .field .ensures,
+      ← voice .before .before .read-voice .ensures,
+      voice .voice .given .1,
       ← c .before .before .read-patterns .ensures,
       c .enum-told3 .given .1,
     )
@@ -88,17 +92,20 @@ returns-4 c =
 returns-5 : tie.Need-returns-5
 unfolding readFields onNumber onVoice onPatterns
 returns-5 c =
+    let patterns = c .before in
+    let voice = patterns .before .before .before .before in
+    let start = voice .before .before .before .before .before in
     rw (
-      ← c .before .before .before .before .before .before .before .before .before .before .before .before .before .before .before .has-fields .ensures,
-      not-false (c .before .before .before .before .before .before .before .before .before .before .before .before .before .before .before .has-fields .result) (c .before .before .before .before .before .before .before .before .before .before .before .before .before .before .if1 .left),
-      ← c .before .before .before .before .before .before .before .before .before .before .before .before .before .body .ensures,
-      ← c .before .before .before .before .before .before .before .before .before .before .before .before .decimal-at .ensures,
-      c .before .before .before .before .before .before .before .before .before .before .start .given .1,
-      ← c .before .before .before .before .before .before .before .before .field .ensures,
-      ← c .before .before .before .before .before .before .before .read-voice .ensures,
-      c .before .before .before .before .before .voice .given .1,
-      ← c .before .before .before .read-patterns .ensures,
-      c .before .patterns .given .1,
+      ← start .before .before .before .before .before .has-fields .ensures,
+      not-false (start .before .before .before .before .before .has-fields .result) (start .before .before .before .before .if1 .left),
+      ← start .before .before .before .body .ensures,
+      ← start .before .before .decimal-at .ensures,
+      start .start .given .1,
+      ← voice .before .before .before .field .ensures,
+      ← voice .before .before .read-voice .ensures,
+      voice .voice .given .1,
+      ← patterns .before .before .read-patterns .ensures,
+      patterns .patterns .given .1,
     )
 
 pub read-fields-spec : {M : Type 1} → statement M

@@ -1,6 +1,7 @@
-use Rattle.cue_sheet.specs.Sheet.{headOf, readFirstLine}
-use Rattle.cue_sheet.specs.CueLine.{onNumber}
+-- `cue_sheet::read_first_line` meets its contract. Assumes nothing.
 use borrow.Author.Tests.{not-true, not-false, lt-leb, le-leb}
+use Rattle.cue_sheet.specs.CueLine.{onNumber}
+use Rattle.cue_sheet.specs.Sheet.{headOf, readFirstLine}
 use borrow.Author.Needs.{needs}
 use Rattle.cue_sheet.proofs.read_first_line.Statement.{statement}
 use Rattle.cue_sheet.proofs.read_first_line.Tie as tie
@@ -47,12 +48,13 @@ enum-told-2 c = search needs
 returns-3 : tie.Need-returns-3
 unfolding readFirstLine onNumber headOf
 returns-3 c =
+    let rate = c .before .before .before .before in
     rw (
-      ← c .before .before .before .before .before .before .before .before .before .has-fields .ensures,
-      not-false (c .before .before .before .before .before .before .before .before .before .has-fields .result) (c .before .before .before .before .before .before .before .before .if1 .left),
-      ← c .before .before .before .before .before .before .before .body .ensures,
-      ← c .before .before .before .before .before .before .decimal-at .ensures,
-      c .before .before .before .before .rate .given .1,
+      ← rate .before .before .before .before .before .has-fields .ensures,
+      not-false (rate .before .before .before .before .before .has-fields .result) (rate .before .before .before .before .if1 .left),
+      ← rate .before .before .before .body .ensures,
+      ← rate .before .before .decimal-at .ensures,
+      rate .rate .given .1,
       ← c .before .before .decimal-at2 .ensures,
       c .enum-told2 .given .1,
     )
@@ -60,28 +62,32 @@ returns-3 c =
 returns-4 : tie.Need-returns-4
 unfolding readFirstLine onNumber headOf
 returns-4 c =
+    let length = c .before .before in
+    let rate = length .before .before .before .before in
     rw (
-      ← c .before .before .before .before .before .before .before .before .before .before .before .has-fields .ensures,
-      not-false (c .before .before .before .before .before .before .before .before .before .before .before .has-fields .result) (c .before .before .before .before .before .before .before .before .before .before .if1 .left),
-      ← c .before .before .before .before .before .before .before .before .before .body .ensures,
-      ← c .before .before .before .before .before .before .before .before .decimal-at .ensures,
-      c .before .before .before .before .before .before .rate .given .1,
-      ← c .before .before .before .before .decimal-at2 .ensures,
-      c .before .before .length .given .1,
+      ← rate .before .before .before .before .before .has-fields .ensures,
+      not-false (rate .before .before .before .before .before .has-fields .result) (rate .before .before .before .before .if1 .left),
+      ← rate .before .before .before .body .ensures,
+      ← rate .before .before .decimal-at .ensures,
+      rate .rate .given .1,
+      ← length .before .before .decimal-at2 .ensures,
+      length .length .given .1,
       lt-leb _ _ (c .if2 .taken),
     )
 
 returns-5 : tie.Need-returns-5
 unfolding readFirstLine onNumber headOf
 returns-5 c =
+    let length = c .before .before in
+    let rate = length .before .before .before .before in
     rw (
-      ← c .before .before .before .before .before .before .before .before .before .before .before .has-fields .ensures,
-      not-false (c .before .before .before .before .before .before .before .before .before .before .before .has-fields .result) (c .before .before .before .before .before .before .before .before .before .before .if1 .left),
-      ← c .before .before .before .before .before .before .before .before .before .body .ensures,
-      ← c .before .before .before .before .before .before .before .before .decimal-at .ensures,
-      c .before .before .before .before .before .before .rate .given .1,
-      ← c .before .before .before .before .decimal-at2 .ensures,
-      c .before .before .length .given .1,
+      ← rate .before .before .before .before .before .has-fields .ensures,
+      not-false (rate .before .before .before .before .before .has-fields .result) (rate .before .before .before .before .if1 .left),
+      ← rate .before .before .before .body .ensures,
+      ← rate .before .before .decimal-at .ensures,
+      rate .rate .given .1,
+      ← length .before .before .decimal-at2 .ensures,
+      length .length .given .1,
       le-leb _ _ (c .if2 .left),
     )
 

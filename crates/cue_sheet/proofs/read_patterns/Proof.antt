@@ -1,3 +1,4 @@
+-- `cue_sheet::read_patterns` meets its contract. Assumes nothing.
 use Rattle.cue_sheet.specs.CueLine.{onNumber, readPatterns}
 use borrow.Author.Needs.{needs}
 use Rattle.cue_sheet.proofs.read_patterns.Statement.{statement}
@@ -14,11 +15,7 @@ enum-told c = search needs
 
 returns : tie.Need-returns
 unfolding readPatterns onNumber
-returns c =
-    rw (
-      ← c .before .before .pattern-at .ensures,
-      c .enum-told .given .1,
-    )
+returns c = rw (← c .before .before .pattern-at .ensures, c .enum-told .given .1)
 
 pattern-at-requires-2 : tie.Need-pattern-at-requires-2
 pattern-at-requires-2 c κs = search needs
@@ -32,9 +29,10 @@ enum-told-2 c = search needs
 returns-2 : tie.Need-returns-2
 unfolding readPatterns onNumber
 returns-2 c =
+    let accent = c .before .before .before .before in
     rw (
-      ← c .before .before .before .before .before .before .pattern-at .ensures,
-      c .before .before .before .before .accent .given .1,
+      ← accent .before .before .pattern-at .ensures,
+      accent .accent .given .1,
       ← c .before .before .pattern-at2 .ensures,
       c .enum-told2 .given .1,
     )
@@ -51,11 +49,13 @@ enum-told-3 c = search needs
 returns-3 : tie.Need-returns-3
 unfolding readPatterns onNumber
 returns-3 c =
+    let f0 = c .before .before .before .before in
+    let accent = f0 .before .before .before .before in
     rw (
-      ← c .before .before .before .before .before .before .before .before .before .before .pattern-at .ensures,
-      c .before .before .before .before .before .before .before .before .accent .given .1,
-      ← c .before .before .before .before .before .before .pattern-at2 .ensures,
-      c .before .before .before .before .f0 .given .1,
+      ← accent .before .before .pattern-at .ensures,
+      accent .accent .given .1,
+      ← f0 .before .before .pattern-at2 .ensures,
+      f0 .f0 .given .1,
       ← c .before .before .pattern-at3 .ensures,
       c .enum-told3 .given .1,
     )
@@ -72,13 +72,16 @@ enum-told-4 c = search needs
 returns-4 : tie.Need-returns-4
 unfolding readPatterns onNumber
 returns-4 c =
+    let a = c .before .before .before .before in
+    let f0 = a .before .before .before .before in
+    let accent = f0 .before .before .before .before in
     rw (
-      ← c .before .before .before .before .before .before .before .before .before .before .before .before .before .before .pattern-at .ensures,
-      c .before .before .before .before .before .before .before .before .before .before .before .before .accent .given .1,
-      ← c .before .before .before .before .before .before .before .before .before .before .pattern-at2 .ensures,
-      c .before .before .before .before .before .before .before .before .f0 .given .1,
-      ← c .before .before .before .before .before .before .pattern-at3 .ensures,
-      c .before .before .before .before .a .given .1,
+      ← accent .before .before .pattern-at .ensures,
+      accent .accent .given .1,
+      ← f0 .before .before .pattern-at2 .ensures,
+      f0 .f0 .given .1,
+      ← a .before .before .pattern-at3 .ensures,
+      a .a .given .1,
       ← c .before .before .pattern-at4 .ensures,
       c .enum-told4 .given .1,
     )
@@ -95,15 +98,19 @@ enum-told-5 c = search needs
 returns-5 : tie.Need-returns-5
 unfolding readPatterns onNumber
 returns-5 c =
+    let decay = c .before .before .before .before in
+    let a = decay .before .before .before .before in
+    let f0 = a .before .before .before .before in
+    let accent = f0 .before .before .before .before in
     rw (
-      ← c .before .before .before .before .before .before .before .before .before .before .before .before .before .before .before .before .before .before .pattern-at .ensures,
-      c .before .before .before .before .before .before .before .before .before .before .before .before .before .before .before .before .accent .given .1,
-      ← c .before .before .before .before .before .before .before .before .before .before .before .before .before .before .pattern-at2 .ensures,
-      c .before .before .before .before .before .before .before .before .before .before .before .before .f0 .given .1,
-      ← c .before .before .before .before .before .before .before .before .before .before .pattern-at3 .ensures,
-      c .before .before .before .before .before .before .before .before .a .given .1,
-      ← c .before .before .before .before .before .before .pattern-at4 .ensures,
-      c .before .before .before .before .decay .given .1,
+      ← accent .before .before .pattern-at .ensures,
+      accent .accent .given .1,
+      ← f0 .before .before .pattern-at2 .ensures,
+      f0 .f0 .given .1,
+      ← a .before .before .pattern-at3 .ensures,
+      a .a .given .1,
+      ← decay .before .before .pattern-at4 .ensures,
+      decay .decay .given .1,
       ← c .before .before .pattern-at5 .ensures,
       c .enum-told5 .given .1,
     )
@@ -111,17 +118,22 @@ returns-5 c =
 returns-6 : tie.Need-returns-6
 unfolding readPatterns onNumber
 returns-6 c =
+    let last = c .before in
+    let decay = last .before .before .before .before in
+    let a = decay .before .before .before .before in
+    let f0 = a .before .before .before .before in
+    let accent = f0 .before .before .before .before in
     rw (
-      ← c .before .before .before .before .before .before .before .before .before .before .before .before .before .before .before .before .before .before .before .pattern-at .ensures,
-      c .before .before .before .before .before .before .before .before .before .before .before .before .before .before .before .before .before .accent .given .1,
-      ← c .before .before .before .before .before .before .before .before .before .before .before .before .before .before .before .pattern-at2 .ensures,
-      c .before .before .before .before .before .before .before .before .before .before .before .before .before .f0 .given .1,
-      ← c .before .before .before .before .before .before .before .before .before .before .before .pattern-at3 .ensures,
-      c .before .before .before .before .before .before .before .before .before .a .given .1,
-      ← c .before .before .before .before .before .before .before .pattern-at4 .ensures,
-      c .before .before .before .before .before .decay .given .1,
-      ← c .before .before .before .pattern-at5 .ensures,
-      c .before .c .given .1,
+      ← accent .before .before .pattern-at .ensures,
+      accent .accent .given .1,
+      ← f0 .before .before .pattern-at2 .ensures,
+      f0 .f0 .given .1,
+      ← a .before .before .pattern-at3 .ensures,
+      a .a .given .1,
+      ← decay .before .before .pattern-at4 .ensures,
+      decay .decay .given .1,
+      ← last .before .before .pattern-at5 .ensures,
+      last .c .given .1,
     )
 
 pub read-patterns-spec : {M : Type 1} → statement M

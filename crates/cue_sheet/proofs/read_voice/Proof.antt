@@ -1,6 +1,7 @@
-use Rattle.cue_sheet.proofs.Voices.{one-letter, no-letter}
+-- `cue_sheet::read_voice` meets its contract. Assumes nothing.
+use borrow.Author.Tests.{ne-eqb}
 use Rattle.cue_sheet.specs.CueLine.{voiceOf}
-use borrow.Author.Tests.{eq-eqb, ne-eqb}
+use Rattle.cue_sheet.proofs.Voices.{one-letter, no-letter}
 use borrow.Author.Needs.{needs}
 use Rattle.cue_sheet.proofs.read_voice.Statement.{statement}
 use Rattle.cue_sheet.proofs.read_voice.Tie as tie

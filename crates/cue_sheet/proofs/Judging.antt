@@ -2,7 +2,7 @@
 use Prim.Native.Nat.{ℕ, _+_, _-_, _≤_, _<_}
 use native.Mathlib.Nat.{sub-zero}
 use native.Mathlib.Omega.{arith}
-use mathlib.Core.Path.{_≡_, refl, sym, ap, _∙_}
+use mathlib.Core.Path.{_≡_, refl, sym, _∙_}
 use mathlib.Core.List.{List, [], _∷_}
 use lib.ListN as List
 use lib.ListN.{take, drop}
@@ -10,11 +10,11 @@ use lib.Seq.{take-nil, drop-nil}
 use Rattle.text.specs.Read.{lines, lineAt, ended}
 use Rattle.text.proofs.Lines.{line-inside, line-next, lines-over}
 use Rattle.cue_sheet.specs.CueLine.{LineAnswer, strike, refused, hasFields, readCue}
-use Rattle.cue_sheet.specs.Sheet.{SheetAnswer, accepted, refusedAt, readFirstLine, onLine, judgeLines, onFirst, judgeAll, judge, Strike, strikesOf, strikes}
+use Rattle.cue_sheet.specs.Sheet.{SheetAnswer, accepted, refusedAt, readFirstLine, onLine, judgeLines, onFirst, judgeAll, judge, strikesOf, strikes}
 use Rattle.cue_sheet.specs.declared.Cue.{Cue}
 use Rattle.cue_sheet.specs.declared.FirstLine.{FirstLine}
 use Rattle.cue_sheet.specs.declared.FirstLine.the-variants.{Head, Invalid}
-use Rattle.cue_sheet.proofs.Questions.{Passed, cue-passed}
+use Rattle.cue_sheet.proofs.Questions.{cue-passed}
 
 -- the judgment is that of the lines from place at on, after `cues` cues
 pub record Judging (sheet : List ℕ) (rate length at cues leastStart : ℕ) : Type 0 where

@@ -13,7 +13,7 @@ use Rattle.refusal.specs.declared.Answer.{Answer}
 use Rattle.refusal.specs.declared.Answer.the-variants.{Refused}
 use Rattle.refusal.proofs.Laws.{passed, arm-refused}
 use Rattle.cue_sheet.specs.CueLine.{strike, refused, answered, float, cueOf, knobsRefusal, fieldsRefusal, readFields, onFields, readCue}
-use Rattle.cue_sheet.specs.Sheet.{Strike, onCue, strikesOf}
+use Rattle.cue_sheet.specs.Sheet.{onCue, strikesOf}
 use Rattle.cue_sheet.specs.declared.Cue.{Cue}
 use Rattle.cue_sheet.specs.declared.Cue.the-variants.{Bass, Snare, SyntheticSnare, Hihat}
 use Rattle.cue_sheet.specs.declared.Voice.{Voice}

@@ -14,6 +14,7 @@ use Rattle.cue_sheet.specs.Sheet.{SheetAnswer, accepted, refusedAt, read
 use Rattle.cue_sheet.specs.declared.Cue.{Cue}
 use Rattle.cue_sheet.specs.declared.FirstLine.{FirstLine}
 use Rattle.cue_sheet.specs.declared.FirstLine.the-variants.{Head, Invalid}
+use Rattle.cue_sheet.proofs.FirstLines.{HeadIn, head-in}
 use Rattle.cue_sheet.proofs.Questions.{cue-passed}
 
 -- the judgment is that of the lines from place at on, after `cues` cues
@@ -72,16 +73,17 @@ module _ (sheet : List ℕ) (first : ℕ) (ends : first ≡ 0 + List.length (lin
   first-read rate length h = record { inside = first-inside sheet first ends; few = omega arith; left = judged sheet first ends ∙ rw h }
 
   -- the first line of an accepted sheet need not be read again
-  pub first-accepted : (rate length cues : ℕ) → judge sheet ≡ accepted rate length cues → Judging sheet rate length first 0 0
-  unfolding from-first onFirst
-  first-accepted rate length cues h = go (readFirstLine (take first sheet)) refl
+  head-accepted : (rate length cues : ℕ) → judge sheet ≡ accepted rate length cues → readFirstLine (take first sheet) ≡ Head rate length
+  head-accepted rate length cues h = go (readFirstLine (take first sheet)) refl
     where
-      go : (x : FirstLine) → readFirstLine (take first sheet) ≡ x → Judging sheet rate length first 0 0
+      go : (x : FirstLine) → readFirstLine (take first sheet) ≡ x → x ≡ Head rate length
       go (Head r l) e =
-          let g = first-read r l e in
-          let same = same-head r l 0 0 (lines (drop first sheet)) (sym (g .left) ∙ h) in
-          rw (same .0, same .1) at g
+          let same = same-head r l 0 0 (lines (drop first sheet)) (sym (first-read r l e .left) ∙ h) in
+          rw (same .0, same .1)
       go Invalid e = not-accepted (first-refused e ∙ h)
+
+  pub first-accepted : (rate length cues : ℕ) → judge sheet ≡ accepted rate length cues → Judging sheet rate length first 0 0
+  first-accepted rate length cues h = first-read rate length (head-accepted rate length cues h)
 
   pub first-listed : strikes sheet ≡ strikesOf (lines (drop first sheet))
   unfolding strikes
@@ -90,6 +92,10 @@ module _ (sheet : List ℕ) (first : ℕ) (ends : first ≡ 0 + List.length (lin
       rest : (sheet : List ℕ) → first ≡ 0 + List.length (lineAt 0 sheet) → strikesOf (drop 1 (lines sheet)) ≡ strikesOf (lines (drop first sheet))
       rest [] ends = empty-listed first
       rest (x ∷ xs) ends = rw (line-next (x ∷ xs) 0 first ends (omega arith))
+
+-- the rate and the length of an accepted sheet
+pub accepted-head : (sheet : List ℕ) {rate length cues : ℕ} → judge sheet ≡ accepted rate length cues → HeadIn rate length
+accepted-head sheet {rate} {length} {cues} h = head-in _ (head-accepted sheet (0 + List.length (lineAt 0 sheet)) refl rate length cues h)
 
 -- ---- one line after the other: that at `at` ends at `next`
 abbrev pub between : ℕ → ℕ → List ℕ → List ℕ
@@ -118,11 +124,11 @@ module _ {sheet : List ℕ} {rate length at cues leastStart : ℕ} (g : Judging 
   line-listed start cue h = rw (line-next sheet at next ends more) (cue-passed length cues leastStart (between at next sheet) h .listed (lines (drop next sheet)))
 
 -- ---- the end
-pub none-listed : (sheet : List ℕ) (at : ℕ) → List.length sheet ≤ at → strikesOf (lines (drop at sheet)) ≡ []
-unfolding strikesOf
-none-listed sheet at h = rw (lines-over sheet at h)
+module _ {sheet : List ℕ} {rate length at cues leastStart : ℕ} (g : Judging sheet rate length at cues leastStart) (over : List.length sheet ≤ at) where
+  pub all-accepted : accepted rate length cues ≡ judge sheet
+  unfolding judgeLines
+  all-accepted = sym (g .left ∙ rw (lines-over sheet at over))
 
-pub all-accepted : {sheet : List ℕ} {rate length at cues leastStart : ℕ} → Judging sheet rate length at cues leastStart → List.length sheet ≤ at
-    → accepted rate length cues ≡ judge sheet
-unfolding judgeLines
-all-accepted {sheet} {at = at} g h = sym (g .left ∙ rw (lines-over sheet at h))
+  pub none-listed : strikesOf (lines (drop at sheet)) ≡ []
+  unfolding strikesOf
+  none-listed = rw (lines-over sheet at over)

@@ -1,4 +1,5 @@
-pub mod NotANumber
-pub mod Voices
-pub mod Questions
+pub mod FirstLines
 pub mod Judging
+pub mod NotANumber
+pub mod Questions
+pub mod Voices

@@ -12,7 +12,6 @@ use Rattle.text.specs.declared.read.Number.the-variants as Number
 use Rattle.text.proofs.RoundTrip.{decimal-read}
 use Rattle.cue_sheet.specs.CueLine.{hasFields, onNumber}
 use Rattle.cue_sheet.specs.Sheet.{headOf, readFirstLine}
-use Rattle.cue_sheet.specs.declared.FirstLine.{FirstLine}
 use Rattle.cue_sheet.specs.declared.FirstLine.the-variants.{Head, Invalid}
 
 pub record HeadIn (rate length : ℕ) : Type 0 where

@@ -17,7 +17,7 @@ use Rattle.cue_sheet.specs.declared.FirstLine.the-variants.{Head, Invali
 use Rattle.cue_sheet.proofs.FirstLines.{HeadIn, head-in}
 use Rattle.cue_sheet.proofs.Questions.{cue-passed}
 
--- the judgment is that of the lines from place at on, after `cues` cues
+-- the judgment is that of the lines from place at on, after `cues` cues; the next start is at least `leastStart`
 pub record Judging (sheet : List ℕ) (rate length at cues leastStart : ℕ) : Type 0 where
   pub inside : at ≤ List.length sheet
   pub few : cues ≤ 64
@@ -85,6 +85,7 @@ module _ (sheet : List ℕ) (first : ℕ) (ends : first ≡ 0 + List.length (lin
   pub first-accepted : (rate length cues : ℕ) → judge sheet ≡ accepted rate length cues → Judging sheet rate length first 0 0
   first-accepted rate length cues h = first-read rate length (head-accepted rate length cues h)
 
+  -- the cues of a sheet are those of the lines after it
   pub first-listed : strikes sheet ≡ strikesOf (lines (drop first sheet))
   unfolding strikes
   first-listed = rest sheet ends
@@ -107,7 +108,8 @@ module _ {sheet : List ℕ} {rate length at cues leastStart : ℕ} (g : Judging 
   unfolding judgeLines onLine
   line-stops n h = sym (g .left ∙ rw (line-next sheet at next ends more, h))
 
-  pub line-goes-on : (start : ℕ) (cue : Cue) → readCue length cues leastStart (between at next sheet) ≡ strike start cue → Judging sheet rate length next (cues + 1) (start + 1)
+  pub line-goes-on : (start : ℕ) (cue : Cue) → readCue length cues leastStart (between at next sheet) ≡ strike start cue
+      → Judging sheet rate length next (cues + 1) (start + 1)
   unfolding judgeLines onLine
   line-goes-on start cue h = record {
     inside = line-inside sheet at next ends more;

@@ -24,13 +24,16 @@ is-nan nan h = refl
 is-nan (inf s) h = let z : _≡_ {A = ℕ} 0 1 = cc in absurd (omega arith)
 is-nan (fin s m e) h = let z : _≡_ {A = ℕ} 0 1 = cc in absurd (omega arith)
 
+nan-of : (bits : ℕ) → nanBits binary32 bits ≡ true → ofBits binary32 bits ≡ nan
+nan-of bits h = is-nan (ofBits binary32 bits) (sym (nanBits-is binary32 bits) ∙ h)
+
 -- what the test of a pattern says
 module _ (bits : ℕ) {number : Bool} (known : number ≡ not (nanBits binary32 bits)) where
   pub made : number ≡ true → T (not (nanBits binary32 bits))
   made h = rw (← known, h) tt
 
   pub nan-read : number ≡ false → ofBits binary32 bits ≡ nan
-  nan-read h = is-nan (ofBits binary32 bits) (sym (nanBits-is binary32 bits) ∙ not-false (nanBits binary32 bits) (sym known ∙ h))
+  nan-read h = nan-of bits (not-false (nanBits binary32 bits) (sym known ∙ h))
 
 -- a not-a-number passes no question
 pub nan-frequency : isFrequency nan ≡ false
@@ -42,19 +45,12 @@ unfolding isUnit within le round
 nan-unit = refl
 
 -- so a pattern that passes one is that of a number
-passed-number : (q : Float → Bool) → q nan ≡ false → (bits : ℕ) → q (ofBits binary32 bits) ≡ true → T (not (nanBits binary32 bits))
+pub passed-number : (q : Float → Bool) → q nan ≡ false → (bits : ℕ) → q (ofBits binary32 bits) ≡ true → T (not (nanBits binary32 bits))
 passed-number q none bits h = go (nanBits binary32 bits) refl
   where
     go : (t : Bool) → nanBits binary32 bits ≡ t → T (not t)
     go false e = tt
     go true e =
-        let read = is-nan (ofBits binary32 bits) (sym (nanBits-is binary32 bits) ∙ e) in
-        let never : q nan ≡ true = rw read at h in
+        let never : q nan ≡ true = rw (nan-of bits e) at h in
         let z : _≡_ {A = ℕ} 0 1 = cc in
         absurd (omega arith)
-
-pub frequency-number : (bits : ℕ) → isFrequency (ofBits binary32 bits) ≡ true → T (not (nanBits binary32 bits))
-frequency-number bits h = passed-number isFrequency nan-frequency bits h
-
-pub unit-number : (bits : ℕ) → isUnit (ofBits binary32 bits) ≡ true → T (not (nanBits binary32 bits))
-unit-number bits h = passed-number isUnit nan-unit bits h

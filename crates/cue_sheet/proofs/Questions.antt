@@ -31,6 +31,7 @@ pub record KnobsIn (accent f0 a decay c : Float) : Type 0 where
   pub decay-in : KnobIn decay
   pub c-in : KnobIn c
 
+-- those of a cue
 abbrev pub KnobsOf : Cue → Type 0
 KnobsOf (Bass accent f0 tone decay attackFmAmount) = KnobsIn accent f0 tone decay attackFmAmount
 KnobsOf (Snare accent f0 tone decay snappy) = KnobsIn accent f0 tone decay snappy

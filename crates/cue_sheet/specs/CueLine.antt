@@ -50,6 +50,7 @@ readVoice [] = Unknown
 readVoice (letter ∷ []) = voiceOf letter
 readVoice (x ∷ y ∷ zs) = Unknown
 
+-- the knobs of a line without its end, as patterns
 unfoldable pub readPatterns : List ℕ → PatternFields
 unfolding onNumber
 readPatterns line =
@@ -79,7 +80,8 @@ readFields line =
     Read (record { start = start; voice = voice; patterns = patterns }))
     Malformed
 
--- ---- the cue
+-- ---- the cue, whose knobs stand in the order of the fields: a is the tone, or the fm_amount of y, and c what the voice has last
+
 abbrev pub float : ℕ → Float
 float bits = ofBits binary32 bits
 

@@ -1,5 +1,6 @@
 -- `cue_sheet::cue_of` meets its contract: the questions have shown that no pattern is that of a not-a-number. Assumes nothing.
-use Rattle.cue_sheet.proofs.NotANumber.{frequency-number, unit-number}
+use Rattle.refusal.specs.Refusal.{isFrequency, isUnit}
+use Rattle.cue_sheet.proofs.NotANumber.{nan-frequency, nan-unit, passed-number}
 use Rattle.cue_sheet.proofs.Questions.{knobs-in}
 use Rattle.cue_sheet.specs.CueLine.{cueOf}
 use borrow.Author.Needs.{needs}
@@ -7,19 +8,19 @@ use Rattle.cue_sheet.proofs.cue_of.Statement.{statement}
 use Rattle.cue_sheet.proofs.cue_of.Tie as tie
 
 float-from-bits-accent : tie.Need-float-from-bits-accent
-float-from-bits-accent c = unit-number _ (knobs-in _ (c .before .pre) .accent-in)
+float-from-bits-accent c = passed-number isUnit nan-unit _ (knobs-in _ (c .before .pre) .accent-in)
 
 float-from-bits-f0 : tie.Need-float-from-bits-f0
-float-from-bits-f0 c = frequency-number _ (knobs-in _ (c .before .before .pre) .frequency)
+float-from-bits-f0 c = passed-number isFrequency nan-frequency _ (knobs-in _ (c .before .before .pre) .frequency)
 
 float-from-bits-a : tie.Need-float-from-bits-a
-float-from-bits-a c = unit-number _ (knobs-in _ (c .before .before .before .pre) .a-in)
+float-from-bits-a c = passed-number isUnit nan-unit _ (knobs-in _ (c .before .before .before .pre) .a-in)
 
 float-from-bits-decay : tie.Need-float-from-bits-decay
-float-from-bits-decay c = unit-number _ (knobs-in _ (c .before .before .before .before .pre) .decay-in)
+float-from-bits-decay c = passed-number isUnit nan-unit _ (knobs-in _ (c .before .before .before .before .pre) .decay-in)
 
 float-from-bits-c : tie.Need-float-from-bits-c
-float-from-bits-c c = unit-number _ (knobs-in _ (c .before .before .before .before .before .pre) .c-in)
+float-from-bits-c c = passed-number isUnit nan-unit _ (knobs-in _ (c .before .before .before .before .before .pre) .c-in)
 
 enum-told : tie.Need-enum-told
 enum-told c = search needs

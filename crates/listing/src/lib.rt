@@ -9,6 +9,7 @@ ghost use Rattle.text.specs.Write as Write;
 ghost use Rattle.text.specs.Write.{Written, Whole};
 ghost use Rattle.listing.specs.Draws as Draws;
 ghost use Rattle.listing.specs.Refused as Refused;
+ghost use Rattle.listing.specs.Samples as Samples;
 
 // The pattern of x, and 7fc00000 for every not-a-number.
 fn pattern_of(x: f32) -> u32
@@ -119,4 +120,23 @@ pub fn draws(input: &[u8], out: &mut [u8; 25015]) -> usize
     ensures { λ r. ⌜ Whole (now (out .entry)) (Draws.text (now (input .entry))) r (now (out .exit)) ⌝ }
 {
     put_answer(out, read_request(input))
+}
+
+fn put_sample(out: &mut [u8], at: usize, index: u64, x: f32) -> usize
+    ensures { λ r. ⌜ Written (now (out .entry)) at (Samples.row index x) r (now (out .exit)) ⌝ }
+{
+    let end = put_number(out, at, index, b',');
+    put_pattern(out, end, x, b'\n')
+}
+
+fn put_samples(out: &mut [u8], at: usize, samples: &[f32]) -> usize
+    ensures { λ r. ⌜ Written (now (out .entry)) at (Samples.rows 0 (now (samples .entry))) r (now (out .exit)) ⌝ }
+{
+    let mut end = at;
+    let mut i: usize = 0;
+    while i < samples.len() {
+        end = put_sample(out, end, i as u64, samples[i]);
+        i += 1;
+    }
+    end
 }

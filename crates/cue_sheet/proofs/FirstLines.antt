@@ -10,7 +10,7 @@ use Rattle.text.specs.Read.{body, field, decimal}
 use Rattle.text.specs.declared.read.Number.{Number}
 use Rattle.text.specs.declared.read.Number.the-variants as Number
 use Rattle.text.proofs.RoundTrip.{decimal-read}
-use Rattle.cue_sheet.specs.CueLine.{hasFields, onNumber}
+use Rattle.cue_sheet.specs.CueLine.{hasFields}
 use Rattle.cue_sheet.specs.Sheet.{headOf, readFirstLine}
 use Rattle.cue_sheet.specs.declared.FirstLine.the-variants.{Head, Invalid}
 
@@ -20,7 +20,7 @@ pub record HeadIn (rate length : ℕ) : Type 0 where
   pub longest : length ≤ 16384
 
 pub head-in : (line : List ℕ) {rate length : ℕ} → readFirstLine line ≡ Head rate length → HeadIn rate length
-unfolding readFirstLine onNumber headOf
+unfolding readFirstLine headOf
 head-in line {rate} {length} h = go (hasFields 2 line) (decimal 96000 (field 0 (body line))) (decimal 16384 (field 1 (body line))) refl refl h
   where
     never : Invalid ≡ Head rate length → HeadIn rate length
@@ -34,7 +34,7 @@ head-in line {rate} {length} h = go (hasFields 2 line) (decimal 96000 (field 0 (
     from r l false e high long h = never h
 
     go : (t : Bool) (x y : Number) → decimal 96000 (field 0 (body line)) ≡ x → decimal 16384 (field 1 (body line)) ≡ y
-        → cond t (onNumber Invalid x λ r. onNumber Invalid y λ l. headOf r l) Invalid ≡ Head rate length → HeadIn rate length
+        → cond t (headOf x y) Invalid ≡ Head rate length → HeadIn rate length
     go true (Number.Value r) (Number.Value l) ex ey h =
         from r l (leb 16000 r) refl (decimal-read 96000 r _ ex .1) (decimal-read 16384 l _ ey .1) h
     go true (Number.Value r) Number.Invalid ex ey h = never h

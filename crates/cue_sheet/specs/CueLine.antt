@@ -31,11 +31,6 @@ use Rattle.cue_sheet.specs.declared.Fields.the-variants.{Read, Malformed
 unfoldable pub hasFields : ℕ → List ℕ → Bool
 hasFields n line = ended line && eqb (length (fields (body line))) n
 
--- what is made of a number that is read, or `other` where there is none
-unfoldable pub onNumber : {A : Type 0} → A → Number → (ℕ → A) → A
-onNumber other (Value n) f = f n
-onNumber other Invalid f = other
-
 -- one of the letters b, s, y and h
 unfoldable pub voiceOf : ℕ → VoiceField
 voiceOf letter =
@@ -50,34 +45,30 @@ readVoice [] = Unknown
 readVoice (letter ∷ []) = voiceOf letter
 readVoice (x ∷ y ∷ zs) = Unknown
 
--- the knobs of a line without its end, as patterns
+-- the knobs, where each field is a pattern
+unfoldable pub patternsOf : Number → Number → Number → Number → Number → PatternFields
+patternsOf (Value accent) (Value f0) (Value a) (Value decay) (Value c) = PatternFields.Read (record { accent = accent; f0 = f0; a = a; decay = decay; c = c })
+patternsOf (Value accent) (Value f0) (Value a) (Value decay) Invalid = PatternFields.Malformed
+patternsOf (Value accent) (Value f0) (Value a) Invalid c = PatternFields.Malformed
+patternsOf (Value accent) (Value f0) Invalid decay c = PatternFields.Malformed
+patternsOf (Value accent) Invalid a decay c = PatternFields.Malformed
+patternsOf Invalid f0 a decay c = PatternFields.Malformed
+
 unfoldable pub readPatterns : List ℕ → PatternFields
-unfolding onNumber
-readPatterns line =
-    onNumber PatternFields.Malformed (pattern (field 2 line)) λ accent.
-    onNumber PatternFields.Malformed (pattern (field 3 line)) λ f0.
-    onNumber PatternFields.Malformed (pattern (field 4 line)) λ a.
-    onNumber PatternFields.Malformed (pattern (field 5 line)) λ decay.
-    onNumber PatternFields.Malformed (pattern (field 6 line)) λ c.
-    PatternFields.Read (record { accent = accent; f0 = f0; a = a; decay = decay; c = c })
+readPatterns line = patternsOf (pattern (field 2 line)) (pattern (field 3 line)) (pattern (field 4 line)) (pattern (field 5 line)) (pattern (field 6 line))
 
-unfoldable pub onVoice : VoiceField → (Voice → Fields) → Fields
-onVoice (Named v) f = f v
-onVoice Unknown f = Malformed
+-- all seven, where each is well formed
+unfoldable pub fieldsOf : Number → VoiceField → PatternFields → Fields
+fieldsOf (Value start) (Named voice) (PatternFields.Read patterns) = Read (record { start = start; voice = voice; patterns = patterns })
+fieldsOf (Value start) (Named voice) PatternFields.Malformed = Malformed
+fieldsOf (Value start) Unknown patterns = Malformed
+fieldsOf Invalid voice patterns = Malformed
 
-unfoldable pub onPatterns : PatternFields → (Patterns → Fields) → Fields
-onPatterns (PatternFields.Read p) f = f p
-onPatterns PatternFields.Malformed f = Malformed
-
--- seven well-formed fields and a line end; a start has one to five digits
+-- a start has one to five digits
 unfoldable pub readFields : List ℕ → Fields
-unfolding onNumber onVoice onPatterns
 readFields line =
     cond (hasFields 7 line)
-    (onNumber Malformed (decimal 99999 (field 0 (body line))) λ start.
-    onVoice (readVoice (field 1 (body line))) λ voice.
-    onPatterns (readPatterns (body line)) λ patterns.
-    Read (record { start = start; voice = voice; patterns = patterns }))
+    (fieldsOf (decimal 99999 (field 0 (body line))) (readVoice (field 1 (body line))) (readPatterns (body line)))
     Malformed
 
 -- ---- the cue, whose knobs stand in the order of the fields: a is the tone, or the fm_amount of y, and c what the voice has last

@@ -6,7 +6,10 @@ use lib.Dec.{leb}
 use lib.ListN.{drop}
 use Rattle.refusal.specs.Refusal.{number}
 use Rattle.text.specs.Read.{body, field, decimal, lines}
-use Rattle.cue_sheet.specs.CueLine.{LineAnswer, strike, refused, hasFields, onNumber, readFields, cueOf, readCue}
+use Rattle.text.specs.declared.read.Number.{Number}
+use Rattle.text.specs.declared.read.Number.the-variants.{Value}
+use Rattle.text.specs.declared.read.Number.the-variants as Number
+use Rattle.cue_sheet.specs.CueLine.{LineAnswer, strike, refused, hasFields, readFields, cueOf, readCue}
 use Rattle.cue_sheet.specs.declared.Cue.{Cue}
 use Rattle.cue_sheet.specs.declared.Fields.{Fields}
 use Rattle.cue_sheet.specs.declared.Fields.the-variants.{Read, Malformed}
@@ -17,17 +20,13 @@ use Rattle.cue_sheet.specs.declared.Judgment.the-variants.{Accepted, Ref
 
 -- ---- the first line, `rate,length`: a rate from 16000 to 96000, and a length from 0 to 16384
 
-unfoldable pub headOf : ℕ → ℕ → FirstLine
-headOf rate length = cond (leb 16000 rate) (Head rate length) Invalid
+unfoldable pub headOf : Number → Number → FirstLine
+headOf (Value rate) (Value length) = cond (leb 16000 rate) (Head rate length) Invalid
+headOf (Value rate) Number.Invalid = Invalid
+headOf Number.Invalid length = Invalid
 
 unfoldable pub readFirstLine : List ℕ → FirstLine
-unfolding onNumber
-readFirstLine line =
-    cond (hasFields 2 line)
-    (onNumber Invalid (decimal 96000 (field 0 (body line))) λ rate.
-    onNumber Invalid (decimal 16384 (field 1 (body line))) λ length.
-    headOf rate length)
-    Invalid
+readFirstLine line = cond (hasFields 2 line) (headOf (decimal 96000 (field 0 (body line))) (decimal 16384 (field 1 (body line)))) Invalid
 
 -- ---- the judgment: the rate, the length and the number of cues, or the number of the first question that is not passed and its line, counted from 1
 pub data SheetAnswer : Type 0 where

@@ -163,22 +163,23 @@ fn pattern_at(body: &[u8], k: usize) -> Number
     text::read::pattern(text::read::field(body, k))
 }
 
-fn read_patterns(body: &[u8]) -> PatternFields
-    ensures { λ r. ⌜ r ≡ CueLine.readPatterns (now (body .entry)) ⌝ }
+// The knobs, where each field is a pattern.
+fn patterns_of(accent: Number, f0: Number, a: Number, decay: Number, c: Number) -> PatternFields
+    ensures { λ r. ⌜ r ≡ CueLine.patternsOf accent f0 a decay c ⌝ }
 {
-    let Number::Value(accent) = pattern_at(body, 2) else {
+    let Number::Value(accent) = accent else {
         return PatternFields::Malformed;
     };
-    let Number::Value(f0) = pattern_at(body, 3) else {
+    let Number::Value(f0) = f0 else {
         return PatternFields::Malformed;
     };
-    let Number::Value(a) = pattern_at(body, 4) else {
+    let Number::Value(a) = a else {
         return PatternFields::Malformed;
     };
-    let Number::Value(decay) = pattern_at(body, 5) else {
+    let Number::Value(decay) = decay else {
         return PatternFields::Malformed;
     };
-    let Number::Value(c) = pattern_at(body, 6) else {
+    let Number::Value(c) = c else {
         return PatternFields::Malformed;
     };
     PatternFields::Read(Patterns {
@@ -190,20 +191,28 @@ fn read_patterns(body: &[u8]) -> PatternFields
     })
 }
 
-fn read_fields(line: &[u8]) -> Fields
-    ensures { λ r. ⌜ r ≡ CueLine.readFields (now (line .entry)) ⌝ }
+fn read_patterns(body: &[u8]) -> PatternFields
+    ensures { λ r. ⌜ r ≡ CueLine.readPatterns (now (body .entry)) ⌝ }
 {
-    if !has_fields(line, 7) {
-        return Fields::Malformed;
-    }
-    let body = text::read::body(line);
-    let Number::Value(start) = decimal_at(body, 0, 99999) else {
+    let accent = pattern_at(body, 2);
+    let f0 = pattern_at(body, 3);
+    let a = pattern_at(body, 4);
+    let decay = pattern_at(body, 5);
+    let c = pattern_at(body, 6);
+    patterns_of(accent, f0, a, decay, c)
+}
+
+// All fields, where each is well formed.
+fn fields_of(start: Number, voice: VoiceField, patterns: PatternFields) -> Fields
+    ensures { λ r. ⌜ r ≡ CueLine.fieldsOf start voice patterns ⌝ }
+{
+    let Number::Value(start) = start else {
         return Fields::Malformed;
     };
-    let VoiceField::Named(voice) = read_voice(text::read::field(body, 1)) else {
+    let VoiceField::Named(voice) = voice else {
         return Fields::Malformed;
     };
-    let PatternFields::Read(patterns) = read_patterns(body) else {
+    let PatternFields::Read(patterns) = patterns else {
         return Fields::Malformed;
     };
     Fields::Read(CueFields {
@@ -211,6 +220,19 @@ fn read_fields(line: &[u8]) -> Fields
         voice,
         patterns,
     })
+}
+
+fn read_fields(line: &[u8]) -> Fields
+    ensures { λ r. ⌜ r ≡ CueLine.readFields (now (line .entry)) ⌝ }
+{
+    if !has_fields(line, 7) {
+        return Fields::Malformed;
+    }
+    let body = text::read::body(line);
+    let start = decimal_at(body, 0, 99999);
+    let voice = read_voice(text::read::field(body, 1));
+    let patterns = read_patterns(body);
+    fields_of(start, voice, patterns)
 }
 
 fn knobs_asked(knobs: Patterns) -> Answer
@@ -296,6 +318,21 @@ pub fn read_cue(line: &[u8], length: u32, cues: u32, least_start: u32) -> Line
     }
 }
 
+fn head_of(rate: Number, length: Number) -> FirstLine
+    ensures { λ r. ⌜ r ≡ Sheet.headOf rate length ⌝ }
+{
+    let Number::Value(rate) = rate else {
+        return FirstLine::Invalid;
+    };
+    let Number::Value(length) = length else {
+        return FirstLine::Invalid;
+    };
+    if rate < 16000 {
+        return FirstLine::Invalid;
+    }
+    FirstLine::Head { rate, length }
+}
+
 // `rate,length` and a line end.
 pub fn read_first_line(line: &[u8]) -> FirstLine
     ensures { λ r. ⌜ r ≡ Sheet.readFirstLine (now (line .entry)) ⌝ }
@@ -304,16 +341,9 @@ pub fn read_first_line(line: &[u8]) -> FirstLine
         return FirstLine::Invalid;
     }
     let body = text::read::body(line);
-    let Number::Value(rate) = decimal_at(body, 0, 96000) else {
-        return FirstLine::Invalid;
-    };
-    let Number::Value(length) = decimal_at(body, 1, 16384) else {
-        return FirstLine::Invalid;
-    };
-    if rate < 16000 {
-        return FirstLine::Invalid;
-    }
-    FirstLine::Head { rate, length }
+    let rate = decimal_at(body, 0, 96000);
+    let length = decimal_at(body, 1, 16384);
+    head_of(rate, length)
 }
 
 pub fn judge(sheet: &[u8]) -> Judgment

@@ -1,0 +1,63 @@
+-- `cue_sheet::fields_of` meets its contract. Assumes nothing.
+use Rattle.cue_sheet.specs.CueLine.{fieldsOf}
+use borrow.Author.Needs.{needs}
+use Rattle.cue_sheet.proofs.fields_of.Statement.{statement}
+use Rattle.cue_sheet.proofs.fields_of.Tie as tie
+
+enum-known-start : tie.Need-enum-known-start
+enum-known-start c = search needs
+
+enum-told : tie.Need-enum-told
+enum-told c = search needs
+
+returns : tie.Need-returns
+unfolding fieldsOf
+returns c = rw (c .enum-told .given .1)
+
+enum-known-voice : tie.Need-enum-known-voice
+enum-known-voice c = search needs
+
+enum-told-2 : tie.Need-enum-told-2
+enum-told-2 c = search needs
+
+returns-2 : tie.Need-returns-2
+unfolding fieldsOf
+returns-2 c =
+    let start = c .before .before .before in
+    rw (start .start .given .1, c .enum-told2 .given .1)
+
+enum-known-patterns : tie.Need-enum-known-patterns
+enum-known-patterns c = search needs
+
+enum-told-3 : tie.Need-enum-told-3
+enum-told-3 c = search needs
+
+returns-3 : tie.Need-returns-3
+unfolding fieldsOf
+returns-3 c =
+    let voice = c .before .before .before in
+    let start = voice .before .before .before in
+    rw (start .start .given .1, voice .voice .given .1, c .enum-told3 .given .1)
+
+returns-4 : tie.Need-returns-4
+unfolding fieldsOf
+returns-4 c =
+    let patterns = c .before in
+    let voice = patterns .before .before .before in
+    let start = voice .before .before .before in
+    rw (start .start .given .1, voice .voice .given .1, patterns .patterns .given .1)
+
+pub fields-of-spec : {M : Type 1} → statement M
+fields-of-spec =
+    tie.close
+    (tie.spec
+    enum-known-start
+    enum-told
+    returns
+    enum-known-voice
+    enum-told-2
+    returns-2
+    enum-known-patterns
+    enum-told-3
+    returns-3
+    returns-4)

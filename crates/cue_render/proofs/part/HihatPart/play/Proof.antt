@@ -1,0 +1,52 @@
+-- `cue_render::part::HihatPart::play` meets its contract. Assumes nothing.
+use borrow.Author.Needs.{needs}
+use borrow.Author.Tests.{not-true, not-false}
+use mathlib.Core.Path.{refl}
+use Rattle.cue_render.specs.Part.{hihatInto, hihatAfter}
+use Rattle.cue_render.proofs.Fill.{cleared-scratch}
+use Rattle.cue_render.proofs.part.HihatPart.play.Statement.{statement}
+use Rattle.cue_render.proofs.part.HihatPart.play.Tie as tie
+
+returns : tie.Need-returns
+unfolding hihatInto hihatAfter
+returns c = rw (not-true (c .before .before .before .before .before .args .self .playing .struck) (c .if1 .taken)) (refl, refl)
+
+clear-requires : tie.Need-clear-requires
+clear-requires c κs = search needs
+
+render-requires : tie.Need-render-requires
+render-requires c κs = search needs
+
+add-to-requires : tie.Need-add-to-requires
+add-to-requires c κs = search needs
+
+held-requires : tie.Need-held-requires
+held-requires c κs = search needs
+
+same-length : tie.Need-same-length
+same-length c = search needs
+
+same-length-2 : tie.Need-same-length-2
+same-length-2 c = search needs
+
+returns-2 : tie.Need-returns-2
+unfolding hihatInto hihatAfter
+returns-2 c =
+    let s = c .before .before .before .before .before .before .before .before .before .before .before .before .before .before .before .before .before .before .before .before .before in
+    let struck = not-false (s .args .self .playing .struck) (c .before .before .before .before .before .before .before .before .before .before .before .before .before .before .before .before .if1 .left) in
+    let render = c .before .before .before .before .before .before .before .before .before .render in
+    let cleared = cleared-scratch _ _ _ (s .pre) (c .before .before .before .before .before .before .before .before .before .before .before .before .before .clear .ensures) in
+    (rw (c .held .ensures, render .ensures .1 .0, render .ensures .1 .1 .0, cleared .1, struck), rw (c .before .before .before .before .add-to .ensures, render .ensures .1 .1 .1, cleared .0, struck))
+
+pub play-spec : {M : Type 1} → statement M
+play-spec =
+    tie.close
+    (tie.spec
+    returns
+    clear-requires
+    render-requires
+    add-to-requires
+    held-requires
+    same-length
+    same-length-2
+    returns-2)

@@ -1,0 +1,2 @@
+pub mod Mix
+pub mod Part

@@ -1,2 +1,4 @@
 pub mod Mix
 pub mod Part
+pub mod Zero
+pub mod Kit

@@ -8,10 +8,13 @@ use Rattle.ieee754.specs.Single.{decimal}
 use Rattle.analog_bass_drum.specs.AnalogBassDrum as AnalogBassDrum
 use Rattle.analog_snare_drum.specs.AnalogSnareDrum as AnalogSnareDrum
 use Rattle.synthetic_snare_drum.specs.SyntheticSnareDrum as SyntheticSnareDrum
-use Rattle.hihat.specs.Hihat as Hihat
+use Rattle.hihat.specs.Hihat as hihat
 use Rattle.cue_render.specs.Mix.{silence}
 use Rattle.cue_render.specs.Zero as Zero
-use Rattle.cue_render.specs.Part.{strike, bassInto, bassAfter, snareInto, snareAfter, syntheticSnareInto, syntheticSnareAfter, hihatInto, hihatAfter}
+use Rattle.cue_sheet.specs.declared.Cue.{Cue}
+use Rattle.cue_sheet.specs.declared.Cue.the-variants.{Bass, Snare, SyntheticSnare, Hihat}
+use Rattle.cue_render.specs.Part as Part
+use Rattle.cue_render.specs.Part.{knobsOf, bassInto, bassAfter, snareInto, snareAfter, syntheticSnareInto, syntheticSnareAfter, hihatInto, hihatAfter}
 use Rattle.cue_render.specs.declared.part.Playing.{Playing}
 use Rattle.cue_render.specs.declared.kit.Kit.{Kit}
 
@@ -31,7 +34,7 @@ start rate =
       bass = record { voice = AnalogBassDrum.init Zero.bass sampleRate; playing = unstruck };
       snare = record { voice = AnalogSnareDrum.init Zero.snare sampleRate; playing = unstruck };
       «synthetic_snare» = record { voice = SyntheticSnareDrum.init Zero.syntheticSnare sampleRate; playing = unstruck };
-      hihat = record { voice = Hihat.init Zero.hihat sampleRate; playing = unstruck };
+      hihat = record { voice = hihat.init Zero.hihat sampleRate; playing = unstruck };
       noise = 33;
     }
 
@@ -52,3 +55,38 @@ afterSegment k n =
     let y = syntheticSnareAfter (k .«synthetic_snare») (s .noise) n in
     let h = hihatAfter (k .hihat) (y .noise) n in
     record { bass = bassAfter (k .bass) n; snare = s .part; «synthetic_snare» = y .part; hihat = h .part; noise = h .noise }
+
+-- ---- the kit with the voice of a cue struck
+unfoldable pub strike : Kit → Cue → Kit
+strike k (Bass accent f0 a decay c) =
+    record {
+      bass = record { voice = k .bass .voice; playing = Part.strike (knobsOf (Bass accent f0 a decay c)) };
+      snare = k .snare;
+      «synthetic_snare» = k .«synthetic_snare»;
+      hihat = k .hihat;
+      noise = k .noise;
+    }
+strike k (Snare accent f0 a decay c) =
+    record {
+      bass = k .bass;
+      snare = record { voice = k .snare .voice; playing = Part.strike (knobsOf (Snare accent f0 a decay c)) };
+      «synthetic_snare» = k .«synthetic_snare»;
+      hihat = k .hihat;
+      noise = k .noise;
+    }
+strike k (SyntheticSnare accent f0 a decay c) =
+    record {
+      bass = k .bass;
+      snare = k .snare;
+      «synthetic_snare» = record { voice = k .«synthetic_snare» .voice; playing = Part.strike (knobsOf (SyntheticSnare accent f0 a decay c)) };
+      hihat = k .hihat;
+      noise = k .noise;
+    }
+strike k (Hihat accent f0 a decay c) =
+    record {
+      bass = k .bass;
+      snare = k .snare;
+      «synthetic_snare» = k .«synthetic_snare»;
+      hihat = record { voice = k .hihat .voice; playing = Part.strike (knobsOf (Hihat accent f0 a decay c)) };
+      noise = k .noise;
+    }

@@ -8,8 +8,10 @@ use Rattle.ieee754.specs.Single.{decimal}
 use Rattle.analog_bass_drum.specs.AnalogBassDrum as AnalogBassDrum
 use Rattle.analog_snare_drum.specs.AnalogSnareDrum as AnalogSnareDrum
 use Rattle.synthetic_snare_drum.specs.SyntheticSnareDrum as SyntheticSnareDrum
-use Rattle.hihat.specs.Hihat as Hihat
+use Rattle.hihat.specs.Hihat as hihat
 use Rattle.hihat.specs.declared.VcaType.the-variants.{Swing}
+use Rattle.cue_sheet.specs.declared.Cue.{Cue}
+use Rattle.cue_sheet.specs.declared.Cue.the-variants.{Bass, Snare, SyntheticSnare, Hihat}
 use Rattle.cue_render.specs.Mix.{silence, added}
 use Rattle.cue_render.specs.declared.part.Knobs.{Knobs}
 use Rattle.cue_render.specs.declared.part.Playing.{Playing}
@@ -21,7 +23,17 @@ use Rattle.cue_render.specs.declared.part.SnarePlayed.{SnarePlayed}
 use Rattle.cue_render.specs.declared.part.SyntheticSnarePlayed.{SyntheticSnarePlayed}
 use Rattle.cue_render.specs.declared.part.HihatPlayed.{HihatPlayed}
 
--- a part that is struck: the segment that follows begins with its cue
+abbrev pub knobs : Float → Float → Float → Float → Float → Knobs
+knobs accent f0 a decay c = record { accent = accent; f0 = f0; a = a; decay = decay; c = c }
+
+-- what a and c of a cue line set, in each voice
+unfoldable pub knobsOf : Cue → Knobs
+knobsOf (Bass accent f0 tone decay attackFmAmount) = knobs accent f0 tone decay attackFmAmount
+knobsOf (Snare accent f0 tone decay snappy) = knobs accent f0 tone decay snappy
+knobsOf (SyntheticSnare accent f0 fmAmount decay snappy) = knobs accent f0 fmAmount decay snappy
+knobsOf (Hihat accent f0 tone decay noisiness) = knobs accent f0 tone decay noisiness
+
+-- what a part plays that is struck: the segment that follows begins with its cue
 abbrev pub strike : Knobs → Playing
 strike knobs = record { struck = true; trigger = true; knobs = knobs }
 
@@ -103,7 +115,7 @@ module _ (p : HihatPart) (noise : ℕ) where
       let k = p .playing .knobs in
       cond (p .playing .struck)
       (added out
-      (Hihat.renderOut (p .voice) noise false (p .playing .trigger) (k .accent) (k .f0) (k .a) (k .decay) (k .c)
+      (hihat.renderOut (p .voice) noise false (p .playing .trigger) (k .accent) (k .f0) (k .a) (k .decay) (k .c)
       (silence (length out)) Swing true false))
       out
 
@@ -113,9 +125,9 @@ module _ (p : HihatPart) (noise : ℕ) where
       cond (p .playing .struck)
       (record {
         part = record {
-          voice = Hihat.render (p .voice) noise false (p .playing .trigger) (k .accent) (k .f0) (k .a) (k .decay) (k .c) n Swing true false;
+          voice = hihat.render (p .voice) noise false (p .playing .trigger) (k .accent) (k .f0) (k .a) (k .decay) (k .c) n Swing true false;
           playing = held (p .playing);
         };
-        noise = Hihat.renderNoise (p .voice) noise false (p .playing .trigger) (k .accent) (k .f0) (k .a) (k .decay) (k .c) n Swing true false;
+        noise = hihat.renderNoise (p .voice) noise false (p .playing .trigger) (k .accent) (k .f0) (k .a) (k .decay) (k .c) n Swing true false;
       })
       (record { part = p; noise = noise })

@@ -10,6 +10,7 @@ use crate::part::Playing;
 use crate::part::SnarePart;
 use crate::part::SyntheticSnarePart;
 use crate::zero;
+use cue_sheet::Cue;
 
 pub struct Kit {
     pub bass: BassPart,
@@ -49,6 +50,36 @@ impl Kit {
             },
             noise: 33,
         }
+    }
+
+    // The kit with the voice of a cue struck.
+    pub fn strike(mut self, cue: Cue) -> Self
+        ensures { λ r. ⌜ r ≡ spec.strike self cue ⌝ }
+    {
+        let playing = Playing::strike(Knobs::of(cue));
+        match cue {
+            Cue::Bass { .. } => {
+                let mut bass = self.bass;
+                bass.playing = playing;
+                self.bass = bass;
+            }
+            Cue::Snare { .. } => {
+                let mut snare = self.snare;
+                snare.playing = playing;
+                self.snare = snare;
+            }
+            Cue::SyntheticSnare { .. } => {
+                let mut synthetic_snare = self.synthetic_snare;
+                synthetic_snare.playing = playing;
+                self.synthetic_snare = synthetic_snare;
+            }
+            Cue::Hihat { .. } => {
+                let mut hihat = self.hihat;
+                hihat.playing = playing;
+                self.hihat = hihat;
+            }
+        }
+        self
     }
 
     // One segment, from silence on, by b, s, y and h in this order. The scratch is as long as the segment.

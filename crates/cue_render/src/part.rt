@@ -5,6 +5,7 @@ ghost use Rattle.cue_render.specs.Part as spec;
 use crate::mix;
 use analog_bass_drum::AnalogBassDrum;
 use analog_snare_drum::AnalogSnareDrum;
+use cue_sheet::Cue;
 use hihat::Hihat;
 use hihat::VcaType;
 use synthetic_snare_drum::SyntheticSnareDrum;
@@ -61,8 +62,57 @@ pub struct HihatPlayed {
     pub noise: u32,
 }
 
+impl Knobs {
+    fn new(accent: f32, f0: f32, a: f32, decay: f32, c: f32) -> Self
+        ensures { λ r. ⌜ r ≡ spec.knobs accent f0 a decay c ⌝ }
+    {
+        Knobs {
+            accent,
+            f0,
+            a,
+            decay,
+            c,
+        }
+    }
+
+    pub fn of(cue: Cue) -> Self
+        ensures { λ r. ⌜ r ≡ spec.knobsOf cue ⌝ }
+    {
+        match cue {
+            Cue::Bass {
+                accent,
+                f0,
+                tone,
+                decay,
+                attack_fm_amount,
+            } => Knobs::new(accent, f0, tone, decay, attack_fm_amount),
+            Cue::Snare {
+                accent,
+                f0,
+                tone,
+                decay,
+                snappy,
+            } => Knobs::new(accent, f0, tone, decay, snappy),
+            Cue::SyntheticSnare {
+                accent,
+                f0,
+                fm_amount,
+                decay,
+                snappy,
+            } => Knobs::new(accent, f0, fm_amount, decay, snappy),
+            Cue::Hihat {
+                accent,
+                f0,
+                tone,
+                decay,
+                noisiness,
+            } => Knobs::new(accent, f0, tone, decay, noisiness),
+        }
+    }
+}
+
 impl Playing {
-    // A cue's strike: the segment that follows begins with it.
+    // What a part plays that is struck: the segment that follows begins with its cue.
     pub fn strike(knobs: Knobs) -> Self
         ensures { λ r. ⌜ r ≡ spec.strike knobs ⌝ }
     {

@@ -1,2 +1,5 @@
 pub mod Fill
 pub mod Segment
+pub mod Walk
+pub mod AcceptedSheet
+pub mod Answer

@@ -2,3 +2,4 @@ pub mod Mix
 pub mod Part
 pub mod Zero
 pub mod Kit
+pub mod Render

@@ -1,0 +1,60 @@
+-- `cue_render::render` meets its contract. Assumes nothing.
+use Rattle.cue_render.proofs.Answer.{refused-sheet, short-buffer, filled-buffer}
+use Rattle.cue_render.proofs.AcceptedSheet.{sheet-accepted}
+use mathlib.Core.Path.{sym}
+use borrow.Author.Needs.{needs}
+use Rattle.cue_render.proofs.render.Statement.{statement}
+use Rattle.cue_render.proofs.render.Tie as tie
+
+judge-requires : tie.Need-judge-requires
+judge-requires c κs = search needs
+
+enum-known-refusal : tie.Need-enum-known-refusal
+enum-known-refusal c = search needs
+
+enum-known-rate : tie.Need-enum-known-rate
+enum-known-rate c = search needs
+
+cast-if1 : tie.Need-cast-if1
+cast-if1 c = search needs
+
+returns : tie.Need-returns
+returns c =
+    let known = rw (c .before .before .rate .given .1) at (sym (c .before .before .before .before .judge .ensures)) in
+    short-buffer _ _ _ _ _ known (c .if1 .taken)
+
+slice-aggregate-render-lines : tie.Need-slice-aggregate-render-lines
+slice-aggregate-render-lines c = search needs
+
+render-lines-requires : tie.Need-render-lines-requires
+render-lines-requires c κs =
+    let known = rw (c .before .before .before .before .rate .given .1) at (sym (c .before .before .before .before .before .before .judge .ensures)) in
+    (known, (c .before .before .if1 .left, sheet-accepted _ _ _ _ known .0 .short))
+
+returns-2 : tie.Need-returns-2
+returns-2 c =
+    let known = rw (c .before .refusal .given .1) at (sym (c .before .before .before .judge .ensures)) in
+    refused-sheet _ _ _ _ known
+
+same-length : tie.Need-same-length
+same-length c = search needs
+
+returns-3 : tie.Need-returns-3
+returns-3 c =
+    let known = rw (c .before .before .before .before .before .before .before .before .rate .given .1) at (sym (c .before .before .before .before .before .before .before .before .before .before .judge .ensures)) in
+    filled-buffer _ _ _ _ _ known (c .before .before .before .before .before .before .if1 .left) _ (c .before .before .before .render-lines .ensures)
+
+pub render-spec : {M : Type 1} → statement M
+render-spec =
+    tie.close
+    (tie.spec
+    judge-requires
+    enum-known-refusal
+    enum-known-rate
+    cast-if1
+    returns
+    slice-aggregate-render-lines
+    render-lines-requires
+    returns-2
+    same-length
+    returns-3)

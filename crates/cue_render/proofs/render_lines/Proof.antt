@@ -1,0 +1,143 @@
+-- `cue_render::render_lines` meets its contract. Assumes nothing.
+use borrow.Author.Needs.{needs}
+use mathlib.Core.Path.{_≡_, refl, sym, _∙_}
+use Prim.Native.Nat.{_-_}
+use native.Mathlib.Omega.{arith}
+use lib.ListN as List
+use Rattle.text.proofs.Lines.{line-some, line-inside}
+use Rattle.cue_sheet.proofs.Judging.{never-refused}
+use Rattle.cue_render.proofs.Walk.{Walking, begin, cue-inside, turn, end}
+use Rattle.cue_render.proofs.render_lines.Statement.{statement}
+use Rattle.cue_render.proofs.render_lines.Tie as tie
+
+abbrev Inv-loop : tie.InvT-loop
+Inv-loop sheet rate length cues out₀ scratch₀ kit₀ from₀ at₀ count₀ least-start₀ out scratch kit from at count least-start =
+    Walking sheet rate length out₀ kit from at count least-start out × (List.length scratch ≡ List.length scratch₀)
+
+abbrev μ-loop : tie.MeasureT-loop
+μ-loop sheet rate length cues out₀ scratch₀ kit₀ from₀ at₀ count₀ least-start₀ out scratch kit from at count least-start =
+    List.length sheet - at
+
+start-requires : tie.Need-start-requires Inv-loop μ-loop
+start-requires c κs = search needs
+
+line-end-requires : tie.Need-line-end-requires Inv-loop μ-loop
+line-end-requires c κs = search needs
+
+loop-holds : tie.Need-loop-holds Inv-loop μ-loop
+loop-holds c =
+    (begin _ _ _ _ _ _ (c .line-end .ensures) (c .before .before .before .before .before .pre .0) (c .before .before .before .before .before .pre .1 .0) _ (c .before .start .ensures), refl)
+
+line-end-requires-2 : tie.Need-line-end-requires-2 Inv-loop μ-loop
+line-end-requires-2 c κs = search needs
+
+sub-read-cue : tie.Need-sub-read-cue Inv-loop μ-loop
+sub-read-cue c = search needs
+
+part-read-cue-start : tie.Need-part-read-cue-start Inv-loop μ-loop
+part-read-cue-start c = search needs
+
+part-read-cue-end : tie.Need-part-read-cue-end Inv-loop μ-loop
+part-read-cue-end c = line-inside _ _ _ (c .line-end2 .ensures) (c .before .loop-test .taken)
+
+read-cue-requires : tie.Need-read-cue-requires Inv-loop μ-loop
+read-cue-requires c κs = search needs
+
+enum-told : tie.Need-enum-told Inv-loop μ-loop
+enum-told c = search needs
+
+same-length : tie.Need-same-length Inv-loop μ-loop
+same-length c = search needs
+
+same-length-2 : tie.Need-same-length-2 Inv-loop μ-loop
+same-length-2 c = search needs
+
+returns : tie.Need-returns Inv-loop μ-loop
+returns c =
+    let line = c .before .before .before .before in
+    let refusal = rw (c .enum-told .given .1) at (sym (c .before .before .read-cue .ensures)) in
+    absurd (never-refused (c .before .before .before .before .before .before .loop .inv .0 .judging) _ (line .line-end2 .ensures) (line .before .loop-test .taken) _ _ (c .before .before .before .before .before .before .before .before .before .before .before .before .pre .0) refusal)
+
+enum-known-start : tie.Need-enum-known-start Inv-loop μ-loop
+enum-known-start c = search needs
+
+cast-to : tie.Need-cast-to Inv-loop μ-loop
+cast-to c = search needs
+
+render-segment-requires : tie.Need-render-segment-requires Inv-loop μ-loop
+render-segment-requires c κs =
+    let cue = rw (c .before .before .before .start2 .given .1) at (sym (c .before .before .before .before .before .read-cue .ensures)) in
+    let w = c .before .before .before .before .before .before .before .before .before .loop .inv in
+    let at = cue-inside (w .0) _ (c .before .before .before .before .before .before .before .line-end2 .ensures) (c .before .before .before .before .before .before .before .before .loop-test .taken) _ _ cue in
+    (at .0, omega (arith, at .1, w .0 .room), omega (arith, at .1, w .1, c .before .before .before .before .before .before .before .before .before .before .before .before .before .before .before .pre .1 .1))
+
+strike-requires : tie.Need-strike-requires Inv-loop μ-loop
+strike-requires c κs = search needs
+
+add-least-start : tie.Need-add-least-start Inv-loop μ-loop
+add-least-start c =
+    let cue = rw (c .before .before .before .before .before .before .before .before .before .start2 .given .1) at (sym (c .before .before .before .before .before .before .before .before .before .before .before .read-cue .ensures)) in
+    omega (arith, cue-inside (c .before .before .before .before .before .before .before .before .before .before .before .before .before .before .before .loop .inv .0) _ (c .before .before .before .before .before .before .before .before .before .before .before .before .before .line-end2 .ensures) (c .before .before .before .before .before .before .before .before .before .before .before .before .before .before .loop-test .taken) _ _ cue .1, c .before .before .before .before .before .before .before .before .before .before .before .before .before .before .before .before .before .before .before .before .before .fits .length)
+
+add-count : tie.Need-add-count Inv-loop μ-loop
+add-count c = omega (arith, c .before .before .before .before .before .before .before .before .before .before .before .before .before .before .before .loop .inv .0 .judging .few)
+
+loop-less : tie.Need-loop-less Inv-loop μ-loop
+loop-less c =
+    let ends = c .before .before .before .before .before .before .before .before .before .before .before .before .before .line-end2 .ensures in
+    let more = c .before .before .before .before .before .before .before .before .before .before .before .before .before .before .loop-test .taken in
+    omega (arith, line-some _ _ _ ends more, line-inside _ _ _ ends more)
+
+loop-again : tie.Need-loop-again Inv-loop μ-loop
+loop-again c =
+    let cue = rw (c .before .before .before .before .before .before .before .before .before .start2 .given .1) at (sym (c .before .before .before .before .before .before .before .before .before .before .before .read-cue .ensures)) in
+    let w = c .before .before .before .before .before .before .before .before .before .before .before .before .before .before .before .loop .inv in
+    let segment = c .before .before .before .before .before .render-segment in (
+      turn (w .0) _ (c .before .before .before .before .before .before .before .before .before .before .before .before .before .line-end2 .ensures) (c .before .before .before .before .before .before .before .before .before .before .before .before .before .before .loop-test .taken) _ _ cue _ _ _ (segment .ensures .1) (segment .kept .1 .1 .1 .0) (segment .ensures .0) (c .strike .ensures),
+      segment .kept .1 .1 .1 .1 .0 ∙ w .1,
+    )
+
+render-segment-requires-2 : tie.Need-render-segment-requires-2 Inv-loop μ-loop
+render-segment-requires-2 c κs =
+    let w = c .before .before .before .loop .inv in
+    (w .0 .inside, w .0 .room, omega (arith, w .1, c .before .before .before .before .before .before .before .before .before .pre .1 .1))
+
+same-length-3 : tie.Need-same-length-3 Inv-loop μ-loop
+same-length-3 c = search needs
+
+same-length-4 : tie.Need-same-length-4 Inv-loop μ-loop
+same-length-4 c = search needs
+
+returns-2 : tie.Need-returns-2 Inv-loop μ-loop
+returns-2 c = end (c .before .before .before .before .before .before .before .before .loop .inv .0) (c .before .before .before .before .before .before .before .loop-test .left) _ (c .before .before .before .before .render-segment2 .ensures .1)
+
+pub render-lines-spec : {M : Type 1} → statement M
+render-lines-spec =
+    tie.close
+    (tie.spec
+    Inv-loop
+    μ-loop
+    start-requires
+    line-end-requires
+    loop-holds
+    line-end-requires-2
+    sub-read-cue
+    part-read-cue-start
+    part-read-cue-end
+    read-cue-requires
+    enum-told
+    same-length
+    same-length-2
+    returns
+    enum-known-start
+    cast-to
+    render-segment-requires
+    strike-requires
+    add-least-start
+    add-count
+    loop-less
+    loop-again
+    render-segment-requires-2
+    same-length-3
+    same-length-4
+    returns-2)

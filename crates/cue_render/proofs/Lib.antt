@@ -3,3 +3,4 @@ pub mod Segment
 pub mod Walk
 pub mod AcceptedSheet
 pub mod Answer
+pub mod NeverRefused

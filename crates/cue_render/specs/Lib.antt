@@ -3,3 +3,4 @@ pub mod Part
 pub mod Zero
 pub mod Kit
 pub mod Render
+pub mod Calls

@@ -1,0 +1,167 @@
+-- No call of a voice is refused while an accepted sheet is rendered. Assumes nothing.
+use Prim.Native.Nat.{ℕ, zero, suc, _+_, _-_, _^_, _≤_, _<_}
+use native.Mathlib.Omega.{arith}
+use mathlib.Core.Path.{_≡_, refl, sym, ap, _∙_}
+use mathlib.Core.Bool.{Bool, true, false, cond, true≢false}
+use mathlib.Core.List.{List, [], _∷_}
+use lib.IntN.{pos}
+use lib.Ieee.{Float, binary32, le, round, ofInt}
+use lib.Ieee.Back.{round-whole}
+use lib.Ieee.Order.{le-of-values}
+use lib.Ieee.Bits.{is-true}
+use borrow.Author.Tests.{le-leb}
+use Rattle.ieee754.specs.Single.{decimal}
+use Rattle.block.specs.Block.{Turn, after}
+use Rattle.refusal.specs.Refusal.{ask, askKnobs, isSampleRate, isBlockLength, isUnit, within, unlessRefused}
+use Rattle.analog_bass_drum.specs.AnalogBassDrum as AnalogBassDrum
+use Rattle.analog_snare_drum.specs.AnalogSnareDrum as AnalogSnareDrum
+use Rattle.synthetic_snare_drum.specs.SyntheticSnareDrum as SyntheticSnareDrum
+use Rattle.synthetic_snare_drum.specs.declared.SyntheticSnareDrum.{SyntheticSnareDrum as SyntheticSnare}
+use Rattle.hihat.specs.Hihat as hihat
+use Rattle.hihat.specs.declared.Hihat.{Hihat as HihatVoice}
+use Rattle.hihat.specs.declared.VcaType.the-variants.{Swing}
+use Rattle.cue_sheet.specs.Sheet.{accepted, Strike, judge, strikes}
+use Rattle.cue_sheet.specs.declared.Cue.{Cue}
+use Rattle.cue_sheet.specs.declared.Cue.the-variants.{Bass, Snare, SyntheticSnare as Synthetic, Hihat}
+use Rattle.cue_sheet.proofs.Questions.{KnobsIn, KnobsOf}
+use Rattle.cue_render.specs.Part.{knobsOf, held, bassAfter, snareAfter, syntheticSnareAfter, hihatAfter}
+use Rattle.cue_render.specs.Kit.{unstruck, start, afterSegment, strike}
+use Rattle.cue_render.specs.Calls.{StartAccepted, SegmentAccepted, SegmentsAccepted}
+use Rattle.cue_render.specs.declared.part.Playing.{Playing}
+use Rattle.cue_render.specs.declared.part.BassPart.{BassPart}
+use Rattle.cue_render.specs.declared.part.SnarePlayed.{SnarePlayed}
+use Rattle.cue_render.specs.declared.part.SyntheticSnarePlayed.{SyntheticSnarePlayed}
+use Rattle.cue_render.specs.declared.part.HihatPlayed.{HihatPlayed}
+use Rattle.cue_render.specs.declared.kit.Kit.{Kit}
+use Rattle.cue_render.proofs.AcceptedSheet.{HeadIn, Fine, sheet-accepted}
+
+-- ---- a sheet's rate is a sample rate
+whole-le : (m n : ℕ) → m ≤ n → n ≤ 2 ^ 24 → le (round binary32 false m 1) (round binary32 false n 1) ≡ true
+whole-le m n h small =
+    is-true _ (le-of-values _ _ m 1 n 1 (omega arith) (omega arith) (round-whole binary32 false m (omega arith)) (round-whole binary32 false n small) (omega arith))
+
+sheet-rate : (rate length : ℕ) → HeadIn rate length → isSampleRate (ofInt binary32 (pos rate)) ≡ true
+unfolding isSampleRate within ofInt
+sheet-rate rate length h = rw (whole-le 16000 rate (h .lowest) (omega (arith, h .highest)), whole-le rate 96000 (h .highest) (omega arith))
+
+-- ---- the knobs of what is struck have passed their questions
+abbrev Passed : Playing → Type 0
+Passed p = p .struck ≡ true → KnobsIn (p .knobs .accent) (p .knobs .f0) (p .knobs .a) (p .knobs .decay) (p .knobs .c)
+
+-- ---- the voices that store the rate keep it
+after-kept : {S A : Type 0} (step : S → Turn S) (f : S → A) → ((s : S) → f (step s .next) ≡ f s) → (n : ℕ) (s : S) → f (after step n s) ≡ f s
+unfolding after
+after-kept step f same zero s = refl
+after-kept step f same (suc n) s = after-kept step f same n (step s .next) ∙ same s
+
+module _ (v : SyntheticSnare) (noise : ℕ) (accent f0 a decay c : Float) (n : ℕ) where
+  begun-rate : (trigger : Bool) → SyntheticSnareDrum.begun (SyntheticSnareDrum.settings (v .«sample_rate_hz») false f0 a decay c) v noise trigger accent decay n .voice .«sample_rate_hz» ≡ v .«sample_rate_hz»
+  unfolding SyntheticSnareDrum.begun SyntheticSnareDrum.triggered SyntheticSnareDrum.tuned
+  begun-rate true = refl
+  begun-rate false = refl
+
+  synthetic-rate : (trigger : Bool) → SyntheticSnareDrum.render v noise false trigger accent f0 a decay c n .«sample_rate_hz» ≡ v .«sample_rate_hz»
+  unfolding SyntheticSnareDrum.ended SyntheticSnareDrum.step
+  synthetic-rate trigger = go (SyntheticSnareDrum.renderRefusal (v .«sample_rate_hz») n accent f0 a decay c)
+    where
+      go : (m : ℕ) → unlessRefused m (SyntheticSnareDrum.ended (SyntheticSnareDrum.played v noise false trigger accent f0 a decay c n)) v .«sample_rate_hz» ≡ v .«sample_rate_hz»
+      go zero = after-kept (SyntheticSnareDrum.turn (SyntheticSnareDrum.settings (v .«sample_rate_hz») false f0 a decay c)) (λ s. s .voice .«sample_rate_hz») (λ s. refl) n _ ∙ begun-rate trigger
+      go (suc m) = refl
+
+hihat-rate : (v : HihatVoice) (noise : ℕ) (trigger : Bool) (accent f0 a decay c : Float) (n : ℕ)
+    → hihat.render v noise false trigger accent f0 a decay c n Swing true false .«sample_rate» ≡ v .«sample_rate»
+hihat-rate v noise trigger accent f0 a decay c n = go (hihat.renderRefusal (v .«sample_rate») n accent f0 a decay c)
+  where
+    go : (m : ℕ) → unlessRefused m (hihat.ended v (hihat.end v noise false trigger accent f0 a decay c n Swing true false)) v .«sample_rate» ≡ v .«sample_rate»
+    go zero = refl
+    go (suc m) = refl
+
+-- ---- a kit that no voice of it refuses
+record Ready (k : Kit) : Type 0 where
+  bass : Passed (k .bass .playing)
+  snare : Passed (k .snare .playing)
+  synthetic-snare : Passed (k .«synthetic_snare» .playing)
+  hihat : Passed (k .hihat .playing)
+  synthetic-rate : isSampleRate (k .«synthetic_snare» .voice .«sample_rate_hz») ≡ true
+  hihat-rate : isSampleRate (k .hihat .voice .«sample_rate») ≡ true
+
+asked-all : (n : ℕ) (accent f0 a decay c : Float) (next : ℕ) → n ≤ 16384 → KnobsIn accent f0 a decay c → ask (isBlockLength n) 2 (askKnobs f0 accent a decay c next) ≡ next
+asked-all n accent f0 a decay c next short k = rw (le-leb n 16384 short, k .frequency, k .accent-in, k .a-in, k .decay-in, k .c-in)
+
+zero-unit : isUnit (decimal 0 0) ≡ true
+unfolding isUnit within le round
+zero-unit = refl
+
+ready-accepted : (k : Kit) (n : ℕ) → n ≤ 16384 → Ready k → SegmentAccepted k n
+unfolding AnalogBassDrum.renderRefusal AnalogSnareDrum.renderRefusal SyntheticSnareDrum.renderRefusal hihat.renderRefusal
+ready-accepted k n short r = record {
+  bass = λ struck. asked-all n _ _ _ _ _ _ short (r .bass struck) ∙ rw zero-unit;
+  snare = λ struck. asked-all n _ _ _ _ _ _ short (r .snare struck);
+  synthetic-snare = λ struck. rw (r .synthetic-rate) (asked-all n _ _ _ _ _ _ short (r .synthetic-snare struck));
+  hihat = λ struck. rw (r .hihat-rate) (asked-all n _ _ _ _ _ _ short (r .hihat struck));
+}
+
+-- ---- it starts so, and stays so
+start-ready : (rate : ℕ) → isSampleRate (ofInt binary32 (pos rate)) ≡ true → Ready (start rate)
+unfolding start unstruck SyntheticSnareDrum.initialized hihat.initialized
+start-ready rate h = record {
+  bass = λ struck. absurd (true≢false (sym struck));
+  snare = λ struck. absurd (true≢false (sym struck));
+  synthetic-snare = λ struck. absurd (true≢false (sym struck));
+  hihat = λ struck. absurd (true≢false (sym struck));
+  synthetic-rate = rw h h;
+  hihat-rate = rw h h;
+}
+
+strike-ready : (k : Kit) (cue : Cue) → KnobsOf cue → Ready k → Ready (strike k cue)
+unfolding strike knobsOf
+strike-ready k (Bass accent f0 tone decay attackFmAmount) knobs r =
+    record { bass = λ struck. knobs; snare = r .snare; synthetic-snare = r .synthetic-snare; hihat = r .hihat; synthetic-rate = r .synthetic-rate; hihat-rate = r .hihat-rate }
+strike-ready k (Snare accent f0 tone decay snappy) knobs r =
+    record { bass = r .bass; snare = λ struck. knobs; synthetic-snare = r .synthetic-snare; hihat = r .hihat; synthetic-rate = r .synthetic-rate; hihat-rate = r .hihat-rate }
+strike-ready k (Synthetic accent f0 fmAmount decay snappy) knobs r =
+    record { bass = r .bass; snare = r .snare; synthetic-snare = λ struck. knobs; hihat = r .hihat; synthetic-rate = r .synthetic-rate; hihat-rate = r .hihat-rate }
+strike-ready k (Hihat accent f0 tone decay noisiness) knobs r =
+    record { bass = r .bass; snare = r .snare; synthetic-snare = r .synthetic-snare; hihat = λ struck. knobs; synthetic-rate = r .synthetic-rate; hihat-rate = r .hihat-rate }
+
+either : {A : Type 0} (P : A → Type 0) (t : Bool) (x y : A) → P x → P y → P (cond t x y)
+either P true x y p q = p
+either P false x y p q = q
+
+segment-ready : (k : Kit) (n : ℕ) → Ready k → Ready (afterSegment k n)
+unfolding afterSegment bassAfter snareAfter syntheticSnareAfter hihatAfter
+segment-ready k n r =
+    let y = k .«synthetic_snare» .playing in
+    let h = k .hihat .playing in
+    record {
+      bass = either (λ (p : BassPart). Passed (p .playing)) (k .bass .playing .struck) _ _ (r .bass) (r .bass);
+      snare = either (λ (p : SnarePlayed). Passed (p .part .playing)) (k .snare .playing .struck) _ _ (r .snare) (r .snare);
+      synthetic-snare = either (λ (p : SyntheticSnarePlayed). Passed (p .part .playing)) (y .struck) _ _ (r .synthetic-snare) (r .synthetic-snare);
+      hihat = either (λ (p : HihatPlayed). Passed (p .part .playing)) (h .struck) _ _ (r .hihat) (r .hihat);
+      synthetic-rate =
+          either (λ (p : SyntheticSnarePlayed). isSampleRate (p .part .voice .«sample_rate_hz») ≡ true) (y .struck) _ _
+          (ap isSampleRate (synthetic-rate (k .«synthetic_snare» .voice) _ (y .knobs .accent) (y .knobs .f0) (y .knobs .a) (y .knobs .decay) (y .knobs .c) n (y .trigger)) ∙ r .synthetic-rate) (r .synthetic-rate);
+      hihat-rate =
+          either (λ (p : HihatPlayed). isSampleRate (p .part .voice .«sample_rate») ≡ true) (h .struck) _ _
+          (ap isSampleRate (hihat-rate (k .hihat .voice) _ (h .trigger) (h .knobs .accent) (h .knobs .f0) (h .knobs .a) (h .knobs .decay) (h .knobs .c) n) ∙ r .hihat-rate) (r .hihat-rate);
+    }
+
+-- ---- the sheet
+segments-ready : (length : ℕ) → length ≤ 16384 → (k : Kit) (from leastStart : ℕ) (ss : List Strike) → Ready k → from ≤ leastStart → Fine length leastStart ss
+    → SegmentsAccepted length k from ss
+unfolding SegmentsAccepted Fine
+segments-ready length short k from leastStart [] r h fine = ready-accepted k (length - from) (omega arith) r
+segments-ready length short k from leastStart (s ∷ ss) r h fine =
+    let n = s .start - from in (
+      ready-accepted k n (omega (arith, fine .1)) r,
+      segments-ready length short (strike (afterSegment k n) (s .cue)) (s .start) (s .start + 1) ss (strike-ready (afterSegment k n) (s .cue) (fine .2) (segment-ready k n r)) (omega arith) (fine .3),
+    )
+
+pub never-refused : (sheet : List ℕ) (rate length cues : ℕ) → judge sheet ≡ accepted rate length cues
+    → StartAccepted rate × SegmentsAccepted length (start rate) 0 (strikes sheet)
+never-refused sheet rate length cues h =
+    let known = sheet-accepted rate length cues sheet h in
+    let in-range = sheet-rate rate length (known .0) in (
+      record { bass = rw in-range; snare = rw in-range; synthetic-snare = rw in-range; hihat = rw in-range },
+      segments-ready length (known .0 .short) (start rate) 0 0 (strikes sheet) (start-ready rate in-range) (omega arith) (known .1),
+    )

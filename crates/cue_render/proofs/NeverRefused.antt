@@ -33,7 +33,8 @@ use Rattle.cue_render.specs.declared.part.SnarePlayed.{SnarePlayed}
 use Rattle.cue_render.specs.declared.part.SyntheticSnarePlayed.{SyntheticSnarePlayed}
 use Rattle.cue_render.specs.declared.part.HihatPlayed.{HihatPlayed}
 use Rattle.cue_render.specs.declared.kit.Kit.{Kit}
-use Rattle.cue_render.proofs.AcceptedSheet.{HeadIn, Fine, sheet-accepted}
+use Rattle.cue_sheet.proofs.FirstLines.{HeadIn}
+use Rattle.cue_render.proofs.AcceptedSheet.{Fine, sheet-accepted}
 
 -- ---- a sheet's rate is a sample rate
 whole-le : (m n : ℕ) → m ≤ n → n ≤ 2 ^ 24 → le (round binary32 false m 1) (round binary32 false n 1) ≡ true
@@ -163,5 +164,5 @@ never-refused sheet rate length cues h =
     let known = sheet-accepted rate length cues sheet h in
     let in-range = sheet-rate rate length (known .0) in (
       record { bass = rw in-range; snare = rw in-range; synthetic-snare = rw in-range; hihat = rw in-range },
-      segments-ready length (known .0 .short) (start rate) 0 0 (strikes sheet) (start-ready rate in-range) (omega arith) (known .1),
+      segments-ready length (known .0 .longest) (start rate) 0 0 (strikes sheet) (start-ready rate in-range) (omega arith) (known .1),
     )

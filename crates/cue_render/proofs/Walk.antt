@@ -98,4 +98,4 @@ module _ {sheet : List ℕ} {rate length : ℕ} {out₀ : List Float} {kit : Kit
   pub end : List.length sheet ≤ at → (out′ : List Float) → out′ ≡ take from out ++ (segment kit (length - from) ++ drop length out)
       → out′ ≡ samples rate length (strikes sheet) ++ drop length out₀
   unfolding samplesFrom
-  end over out′ written = written ∙ (rw (none-listed sheet at over) at (w .left))
+  end over out′ written = written ∙ (rw (none-listed (w .judging) over) at (w .left))

@@ -29,7 +29,7 @@ slice-aggregate-render-lines c = search needs
 render-lines-requires : tie.Need-render-lines-requires
 render-lines-requires c κs =
     let known = rw (c .before .before .before .before .rate .given .1) at (sym (c .before .before .before .before .before .before .judge .ensures)) in
-    (known, (c .before .before .if1 .left, sheet-accepted _ _ _ _ known .0 .short))
+    (known, (c .before .before .if1 .left, sheet-accepted _ _ _ _ known .0 .longest))
 
 returns-2 : tie.Need-returns-2
 returns-2 c =

@@ -6,7 +6,6 @@ use mathlib.Core.List.{List, [], _∷_, _++_}
 use lib.Ieee.{binary32, toBits}
 use Rattle.random.specs.Random.{getFloat}
 use Rattle.random.specs.declared.Draw.{Draw}
-use Rattle.refusal.specs.declared.Refusal.the-variants.{CueLine}
 use Rattle.text.specs.Read as Read
 use Rattle.text.specs.Write as Write
 use Rattle.text.specs.Write.{ascii}
@@ -55,7 +54,7 @@ rows n state (suc count) = row n (getFloat state) ++ rows (suc n) (getFloat stat
 
 unfoldable pub answer : Request → List ℕ
 answer (Draws state count) = ascii "draw,word,bits\n" ++ rows 1 state count
-answer Refused = Refusal.text CueLine 1
+answer Refused = Refusal.text 8 1
 
 unfoldable pub text : List ℕ → List ℕ
 text input = answer (readRequest input)

@@ -1,3 +1,3 @@
+pub mod Cues
 pub mod Draws
 pub mod Refused
-pub mod Samples

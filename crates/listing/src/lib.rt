@@ -1,4 +1,5 @@
 // The texts that the programs print.
+use cue_sheet::Judgment;
 use random::Draw;
 use refusal::Refusal;
 use text::read::Number;
@@ -7,9 +8,10 @@ ghost use mathlib.Core.List.{[], _∷_, _++_};
 ghost use lib.Ieee.{binary32, toBits};
 ghost use Rattle.text.specs.Write as Write;
 ghost use Rattle.text.specs.Write.{Written, Whole};
+ghost use Rattle.refusal.specs.Refusal.{number};
+ghost use Rattle.listing.specs.Cues as Cues;
 ghost use Rattle.listing.specs.Draws as Draws;
 ghost use Rattle.listing.specs.Refused as Refused;
-ghost use Rattle.listing.specs.Samples as Samples;
 
 // The pattern of x, and 7fc00000 for every not-a-number.
 fn pattern_of(x: f32) -> u32
@@ -39,7 +41,7 @@ fn put_pattern(out: &mut [u8], at: usize, x: f32, after: u8) -> usize
 
 // The line that a refused input gets, alone.
 fn put_refused(out: &mut [u8], refusal: Refusal, line: u64) -> usize
-    ensures { λ r. ⌜ Written (now (out .entry)) 0 (Refused.text refusal line) r (now (out .exit)) ⌝ }
+    ensures { λ r. ⌜ Written (now (out .entry)) 0 (Refused.text (number refusal) line) r (now (out .exit)) ⌝ }
 {
     let start = text::write::bytes(out, 0, b"refused,");
     let end = put_number(out, start, refusal.number() as u64, b',');
@@ -123,14 +125,14 @@ pub fn draws(input: &[u8], out: &mut [u8; 25015]) -> usize
 }
 
 fn put_sample(out: &mut [u8], at: usize, index: u64, x: f32) -> usize
-    ensures { λ r. ⌜ Written (now (out .entry)) at (Samples.row index x) r (now (out .exit)) ⌝ }
+    ensures { λ r. ⌜ Written (now (out .entry)) at (Cues.row index x) r (now (out .exit)) ⌝ }
 {
     let end = put_number(out, at, index, b',');
     put_pattern(out, end, x, b'\n')
 }
 
 fn put_samples(out: &mut [u8], at: usize, samples: &[f32]) -> usize
-    ensures { λ r. ⌜ Written (now (out .entry)) at (Samples.rows 0 (now (samples .entry))) r (now (out .exit)) ⌝ }
+    ensures { λ r. ⌜ Written (now (out .entry)) at (Cues.rows 0 (now (samples .entry))) r (now (out .exit)) ⌝ }
 {
     let mut end = at;
     let mut i: usize = 0;
@@ -139,4 +141,28 @@ fn put_samples(out: &mut [u8], at: usize, samples: &[f32]) -> usize
         i += 1;
     }
     end
+}
+
+// The header and the samples' rows.
+fn put_listing(out: &mut [u8], samples: &[f32]) -> usize
+    ensures { λ r. ⌜ Written (now (out .entry)) 0 (Write.ascii "sample,bits\n" ++ Cues.rows 0 (now (samples .entry))) r (now (out .exit)) ⌝ }
+{
+    let end = text::write::bytes(out, 0, b"sample,bits\n");
+    put_samples(out, end, samples)
+}
+
+// What the program `cues` prints for a sheet, at the start of `out`. The header has 12 bytes and each of at most 16384 rows at
+// most 15: 5 + 1 + 8 + 1.
+pub fn cues(sheet: &[u8], out: &mut [u8; 245772]) -> usize
+    ensures { λ r. ⌜ Whole (now (out .entry)) (Cues.text (now (sheet .entry))) r (now (out .exit)) ⌝ }
+{
+    let mut samples = [0.0f32; 16384];
+    match cue_render::render(sheet, &mut samples) {
+        Judgment::Accepted {
+            rate: _,
+            length,
+            cues: _,
+        } => put_listing(out, &samples[..length as usize]),
+        Judgment::Refused { refusal, line } => put_refused(out, refusal, line as u64),
+    }
 }

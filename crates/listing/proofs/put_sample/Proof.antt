@@ -1,7 +1,7 @@
 -- `listing::put_sample` meets its contract. Assumes nothing.
 use mathlib.Core.List.{append-assoc}
 use Rattle.text.proofs.Written.{then}
-use Rattle.listing.specs.Samples.{row}
+use Rattle.listing.specs.Cues.{row}
 use borrow.Author.Needs.{needs}
 use Rattle.listing.proofs.put_sample.Statement.{statement}
 use Rattle.listing.proofs.put_sample.Tie as tie

@@ -7,7 +7,7 @@ use lib.ListN.{length, drop, drop-of-length-le}
 use lib.Seq.{drop-cons}
 use lib.Ieee.{nan}
 use Rattle.text.proofs.Written.{Writing, begin, turn, end}
-use Rattle.listing.specs.Samples.{rows}
+use Rattle.listing.specs.Cues.{rows}
 use borrow.Author.Needs.{needs}
 use Rattle.listing.proofs.put_samples.Statement.{statement}
 use Rattle.listing.proofs.put_samples.Tie as tie

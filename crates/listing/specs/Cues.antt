@@ -1,9 +1,12 @@
--- Samples as the program `cues` prints them. Definitions only.
+-- What the program `cues` prints for its input. Definitions only.
 use Prim.Native.Nat.{ℕ, suc}
 use mathlib.Core.List.{List, [], _∷_, _++_}
 use lib.Ieee.{Float, binary32, toBits}
+use Rattle.cue_render.specs.Render.{samples}
+use Rattle.cue_sheet.specs.Sheet.{SheetAnswer, accepted, refusedAt, Strike, judge, strikes}
 use Rattle.text.specs.Write as Write
 use Rattle.text.specs.Write.{ascii}
+use Rattle.listing.specs.Refused as Refused
 
 -- the sample's index and its pattern; every not-a-number has one pattern, 7fc00000
 unfoldable pub row : ℕ → Float → List ℕ
@@ -13,3 +16,10 @@ row index x = Write.decimal index ++ ascii "," ++ Write.pattern (toBits binary32
 unfoldable pub rows : ℕ → List Float → List ℕ
 rows n [] = []
 rows n (x ∷ xs) = row n x ++ rows (suc n) xs
+
+unfoldable pub answer : SheetAnswer → List Strike → List ℕ
+answer (accepted rate length cues) strikes = ascii "sample,bits\n" ++ rows 0 (samples rate length strikes)
+answer (refusedAt number line) strikes = Refused.text number line
+
+unfoldable pub text : List ℕ → List ℕ
+text sheet = answer (judge sheet) (strikes sheet)

@@ -43,11 +43,7 @@ unfoldable pub segment : Kit → ℕ → List Float
 segment k n =
     let s = snareAfter (k .snare) (k .noise) n in
     let y = syntheticSnareAfter (k .«synthetic_snare») (s .noise) n in
-    hihatInto (k .hihat) (y .noise)
-    (syntheticSnareInto (k .«synthetic_snare») (s .noise)
-    (snareInto (k .snare) (k .noise)
-    (bassInto (k .bass)
-    (silence n))))
+    hihatInto (k .hihat) (y .noise) (syntheticSnareInto (k .«synthetic_snare») (s .noise) (snareInto (k .snare) (k .noise) (bassInto (k .bass) (silence n))))
 
 unfoldable pub afterSegment : Kit → ℕ → Kit
 afterSegment k n =

@@ -1,5 +1,5 @@
 -- No call of a voice is refused while an accepted sheet is rendered. Assumes nothing.
-use Prim.Native.Nat.{ℕ, zero, suc, _+_, _-_, _^_, _≤_, _<_}
+use Prim.Native.Nat.{ℕ, zero, suc, _+_, _-_, _^_, _≤_}
 use native.Mathlib.Omega.{arith}
 use mathlib.Core.Path.{_≡_, refl, sym, ap, _∙_}
 use mathlib.Core.Bool.{Bool, true, false, cond, true≢false}
@@ -24,7 +24,7 @@ use Rattle.cue_sheet.specs.Sheet.{accepted, Strike, judge, strikes}
 use Rattle.cue_sheet.specs.declared.Cue.{Cue}
 use Rattle.cue_sheet.specs.declared.Cue.the-variants.{Bass, Snare, SyntheticSnare as Synthetic, Hihat}
 use Rattle.cue_sheet.proofs.Questions.{KnobsIn, KnobsOf}
-use Rattle.cue_render.specs.Part.{knobsOf, held, bassAfter, snareAfter, syntheticSnareAfter, hihatAfter}
+use Rattle.cue_render.specs.Part.{knobsOf, bassAfter, snareAfter, syntheticSnareAfter, hihatAfter}
 use Rattle.cue_render.specs.Kit.{unstruck, start, afterSegment, strike}
 use Rattle.cue_render.specs.Calls.{StartAccepted, SegmentAccepted, SegmentsAccepted}
 use Rattle.cue_render.specs.declared.part.Playing.{Playing}

@@ -21,10 +21,13 @@ module _ (k : Kit) (n : ℕ) (out₀ out₁ out₂ out₃ out₄ : List Float) (
     (snare : (s ≡ snareAfter (k .snare) (k .noise) (length out₁)) × (out₂ ≡ snareInto (k .snare) (k .noise) out₁))
     (synthetic : (y ≡ syntheticSnareAfter (k .«synthetic_snare») (s .noise) (length out₂)) × (out₃ ≡ syntheticSnareInto (k .«synthetic_snare») (s .noise) out₂))
     (hihat : (h ≡ hihatAfter (k .hihat) (y .noise) (length out₃)) × (out₄ ≡ hihatInto (k .hihat) (y .noise) out₃)) where
-  pub segment-block : out₄ ≡ segment k n
+  block-is : out₄ ≡ segment k n
   unfolding segment
-  segment-block = cc
+  block-is = cc
 
-  pub segment-kit : record { bass = b; snare = s .part; «synthetic_snare» = y .part; hihat = h .part; noise = h .noise } ≡ afterSegment k n
+  kit-is : record { bass = b; snare = s .part; «synthetic_snare» = y .part; hihat = h .part; noise = h .noise } ≡ afterSegment k n
   unfolding afterSegment
-  segment-kit = cc
+  kit-is = cc
+
+  pub parts-in-turn : (record { bass = b; snare = s .part; «synthetic_snare» = y .part; hihat = h .part; noise = h .noise } ≡ afterSegment k n) × (out₄ ≡ segment k n)
+  parts-in-turn = (kit-is, block-is)

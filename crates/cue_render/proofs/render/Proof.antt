@@ -41,8 +41,11 @@ same-length c = search needs
 
 returns-3 : tie.Need-returns-3
 returns-3 c =
-    let known = rw (c .before .before .before .before .before .before .before .before .rate .given .1) at (sym (c .before .before .before .before .before .before .before .before .before .before .judge .ensures)) in
-    filled-buffer _ _ _ _ _ known (c .before .before .before .before .before .before .if1 .left) _ (c .before .before .before .render-lines .ensures)
+    let rendered = c .before .before .before in
+    let test = rendered .before .before .before in
+    let accepted = test .before .before in
+    let known = rw (accepted .rate .given .1) at (sym (accepted .before .before .judge .ensures)) in
+    filled-buffer _ _ _ _ _ known (test .if1 .left) _ (rendered .render-lines .ensures)
 
 pub render-spec : {M : Type 1} → statement M
 render-spec =

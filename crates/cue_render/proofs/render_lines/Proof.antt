@@ -26,7 +26,8 @@ line-end-requires c κs = search needs
 
 loop-holds : tie.Need-loop-holds Inv-loop μ-loop
 loop-holds c =
-    (begin _ _ _ _ _ _ (c .line-end .ensures) (c .before .before .before .before .before .pre .0) (c .before .before .before .before .before .pre .1 .0) _ (c .before .start .ensures), refl)
+    let start = c .before .before .before .before .before in
+    (begin _ _ _ _ _ _ (c .line-end .ensures) (start .pre .0) (start .pre .1 .0) _ (c .before .start .ensures), refl)
 
 line-end-requires-2 : tie.Need-line-end-requires-2 Inv-loop μ-loop
 line-end-requires-2 c κs = search needs
@@ -55,8 +56,10 @@ same-length-2 c = search needs
 returns : tie.Need-returns Inv-loop μ-loop
 returns c =
     let line = c .before .before .before .before in
+    let turn = line .before .before in
+    let start = turn .before .before .before .before .before .before in
     let refusal = rw (c .enum-told .given .1) at (sym (c .before .before .read-cue .ensures)) in
-    absurd (never-refused (c .before .before .before .before .before .before .loop .inv .0 .judging) _ (line .line-end2 .ensures) (line .before .loop-test .taken) _ _ (c .before .before .before .before .before .before .before .before .before .before .before .before .pre .0) refusal)
+    absurd (never-refused (turn .loop .inv .0 .judging) _ (line .line-end2 .ensures) (line .before .loop-test .taken) _ _ (start .pre .0) refusal)
 
 enum-known-start : tie.Need-enum-known-start Inv-loop μ-loop
 enum-known-start c = search needs
@@ -66,41 +69,59 @@ cast-to c = search needs
 
 render-segment-requires : tie.Need-render-segment-requires Inv-loop μ-loop
 render-segment-requires c κs =
-    let cue = rw (c .before .before .before .start2 .given .1) at (sym (c .before .before .before .before .before .read-cue .ensures)) in
-    let w = c .before .before .before .before .before .before .before .before .before .loop .inv in
-    let at = cue-inside (w .0) _ (c .before .before .before .before .before .before .before .line-end2 .ensures) (c .before .before .before .before .before .before .before .before .loop-test .taken) _ _ cue in
-    (at .0, omega (arith, at .1, w .0 .room), omega (arith, at .1, w .1, c .before .before .before .before .before .before .before .before .before .before .before .before .before .before .before .pre .1 .1))
+    let read = c .before .before .before in
+    let line = read .before .before .before .before in
+    let now = line .before .before in
+    let start = now .before .before .before .before .before .before in
+    let cue = rw (read .start2 .given .1) at (sym (read .before .before .read-cue .ensures)) in
+    let w = now .loop .inv in
+    let at = cue-inside (w .0) _ (line .line-end2 .ensures) (line .before .loop-test .taken) _ _ cue in
+    (at .0, omega (arith, at .1, w .0 .room), omega (arith, at .1, w .1, start .pre .1 .1))
 
 strike-requires : tie.Need-strike-requires Inv-loop μ-loop
 strike-requires c κs = search needs
 
 add-least-start : tie.Need-add-least-start Inv-loop μ-loop
 add-least-start c =
-    let cue = rw (c .before .before .before .before .before .before .before .before .before .start2 .given .1) at (sym (c .before .before .before .before .before .before .before .before .before .before .before .read-cue .ensures)) in
-    omega (arith, cue-inside (c .before .before .before .before .before .before .before .before .before .before .before .before .before .before .before .loop .inv .0) _ (c .before .before .before .before .before .before .before .before .before .before .before .before .before .line-end2 .ensures) (c .before .before .before .before .before .before .before .before .before .before .before .before .before .before .loop-test .taken) _ _ cue .1, c .before .before .before .before .before .before .before .before .before .before .before .before .before .before .before .before .before .before .before .before .before .fits .length)
+    let read = c .before .before .before .before .before .before .before .before .before in
+    let line = read .before .before .before .before in
+    let now = line .before .before in
+    let start = now .before .before .before .before .before .before in
+    let cue = rw (read .start2 .given .1) at (sym (read .before .before .read-cue .ensures)) in
+    omega (arith, cue-inside (now .loop .inv .0) _ (line .line-end2 .ensures) (line .before .loop-test .taken) _ _ cue .1, start .fits .length)
 
 add-count : tie.Need-add-count Inv-loop μ-loop
-add-count c = omega (arith, c .before .before .before .before .before .before .before .before .before .before .before .before .before .before .before .loop .inv .0 .judging .few)
+add-count c =
+    let now = c .before .before .before .before .before .before .before .before .before .before .before .before .before .before .before in
+    omega (arith, now .loop .inv .0 .judging .few)
 
 loop-less : tie.Need-loop-less Inv-loop μ-loop
 loop-less c =
-    let ends = c .before .before .before .before .before .before .before .before .before .before .before .before .before .line-end2 .ensures in
-    let more = c .before .before .before .before .before .before .before .before .before .before .before .before .before .before .loop-test .taken in
+    let line = c .before .before .before .before .before .before .before .before .before .before .before .before .before in
+    let ends = line .line-end2 .ensures in
+    let more = line .before .loop-test .taken in
     omega (arith, line-some _ _ _ ends more, line-inside _ _ _ ends more)
 
 loop-again : tie.Need-loop-again Inv-loop μ-loop
 loop-again c =
-    let cue = rw (c .before .before .before .before .before .before .before .before .before .start2 .given .1) at (sym (c .before .before .before .before .before .before .before .before .before .before .before .read-cue .ensures)) in
-    let w = c .before .before .before .before .before .before .before .before .before .before .before .before .before .before .before .loop .inv in
-    let segment = c .before .before .before .before .before .render-segment in (
-      turn (w .0) _ (c .before .before .before .before .before .before .before .before .before .before .before .before .before .line-end2 .ensures) (c .before .before .before .before .before .before .before .before .before .before .before .before .before .before .loop-test .taken) _ _ cue _ _ _ (segment .ensures .1) (segment .kept .1 .1 .1 .0) (segment .ensures .0) (c .strike .ensures),
+    let played = c .before .before .before .before .before in
+    let read = played .before .before .before .before in
+    let line = read .before .before .before .before in
+    let now = line .before .before in
+    let cue = rw (read .start2 .given .1) at (sym (read .before .before .read-cue .ensures)) in
+    let w = now .loop .inv in
+    let segment = played .render-segment in (
+      turn (w .0) _ (line .line-end2 .ensures) (line .before .loop-test .taken) _ _ cue _ _ _
+          (segment .ensures .1) (segment .kept .1 .1 .1 .0) (segment .ensures .0) (c .strike .ensures),
       segment .kept .1 .1 .1 .1 .0 ∙ w .1,
     )
 
 render-segment-requires-2 : tie.Need-render-segment-requires-2 Inv-loop μ-loop
 render-segment-requires-2 c κs =
-    let w = c .before .before .before .loop .inv in
-    (w .0 .inside, w .0 .room, omega (arith, w .1, c .before .before .before .before .before .before .before .before .before .pre .1 .1))
+    let now = c .before .before .before in
+    let start = now .before .before .before .before .before .before in
+    let w = now .loop .inv in
+    (w .0 .inside, w .0 .room, omega (arith, w .1, start .pre .1 .1))
 
 same-length-3 : tie.Need-same-length-3 Inv-loop μ-loop
 same-length-3 c = search needs
@@ -109,7 +130,10 @@ same-length-4 : tie.Need-same-length-4 Inv-loop μ-loop
 same-length-4 c = search needs
 
 returns-2 : tie.Need-returns-2 Inv-loop μ-loop
-returns-2 c = end (c .before .before .before .before .before .before .before .before .loop .inv .0) (c .before .before .before .before .before .before .before .loop-test .left) _ (c .before .before .before .before .render-segment2 .ensures .1)
+returns-2 c =
+    let played = c .before .before .before .before in
+    let now = played .before .before .before .before in
+    end (now .loop .inv .0) (c .before .before .before .before .before .before .before .loop-test .left) _ (played .render-segment2 .ensures .1)
 
 pub render-lines-spec : {M : Type 1} → statement M
 render-lines-spec =

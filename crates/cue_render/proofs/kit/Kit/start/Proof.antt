@@ -37,7 +37,23 @@ unstruck-requires c κs = search needs
 returns : tie.Need-returns
 unfolding start
 returns c =
-    rw (c .unstruck .ensures, c .before .before .init4 .ensures .1, c .before .before .before .before .before .init3 .ensures .1, c .before .before .before .before .before .before .before .before .init2 .ensures .1, c .before .before .before .before .before .before .before .before .before .before .before .init .ensures .1, c .before .before .before .hihat .ensures, c .before .before .before .before .before .before .synthetic-snare .ensures, c .before .before .before .before .before .before .before .before .before .snare .ensures, c .before .before .before .before .before .before .before .before .before .before .before .before .bass .ensures, c .before .before .before .before .before .before .before .before .before .before .before .before .before .nearest-f32 .ensures)
+    let h = c .before .before in
+    let y = h .before .before .before in
+    let s = y .before .before .before in
+    let b = s .before .before .before in
+    let rate = b .before .before in
+    rw (
+      c .unstruck .ensures,
+      h .init4 .ensures .1,
+      y .init3 .ensures .1,
+      s .init2 .ensures .1,
+      b .init .ensures .1,
+      h .before .hihat .ensures,
+      y .before .synthetic-snare .ensures,
+      s .before .snare .ensures,
+      b .before .bass .ensures,
+      rate .nearest-f32 .ensures,
+    )
 
 pub start-spec : {M : Type 1} → statement M
 start-spec =

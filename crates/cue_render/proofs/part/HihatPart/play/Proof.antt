@@ -32,11 +32,15 @@ same-length-2 c = search needs
 returns-2 : tie.Need-returns-2
 unfolding hihatInto hihatAfter
 returns-2 c =
-    let s = c .before .before .before .before .before .before .before .before .before .before .before .before .before .before .before .before .before .before .before .before .before in
-    let struck = not-false (s .args .self .playing .struck) (c .before .before .before .before .before .before .before .before .before .before .before .before .before .before .before .before .if1 .left) in
-    let render = c .before .before .before .before .before .before .before .before .before .render in
-    let cleared = cleared-scratch _ _ _ (s .pre) (c .before .before .before .before .before .before .before .before .before .before .before .before .before .clear .ensures) in
-    (rw (c .held .ensures, render .ensures .1 .0, render .ensures .1 .1 .0, cleared .1, struck), rw (c .before .before .before .before .add-to .ensures, render .ensures .1 .1 .1, cleared .0, struck))
+    let added = c .before .before .before .before in
+    let rendered = added .before .before .before .before .before in
+    let cleared = rendered .before .before .before .before in
+    let test = cleared .before .before .before in
+    let start = test .before .before .before .before .before in
+    let struck = not-false (start .args .self .playing .struck) (test .if1 .left) in
+    let scratch = cleared-scratch _ _ _ (start .pre) (cleared .clear .ensures) in
+    let render = rendered .render in
+    (rw (c .held .ensures, render .ensures .1 .0, render .ensures .1 .1 .0, scratch .1, struck), rw (added .add-to .ensures, render .ensures .1 .1 .1, scratch .0, struck))
 
 pub play-spec : {M : Type 1} → statement M
 play-spec =

@@ -1,5 +1,5 @@
 -- No call of a voice is refused while an accepted sheet is rendered. Assumes nothing.
-use Prim.Native.Nat.{ℕ, zero, suc, _+_, _-_, _^_, _≤_}
+use Prim.Native.Nat.{ℕ, zero, suc, _-_, _^_, _≤_}
 use native.Mathlib.Omega.{arith}
 use mathlib.Core.Path.{_≡_, refl, sym, ap, _∙_}
 use mathlib.Core.Bool.{Bool, true, false, cond, true≢false}
@@ -34,7 +34,7 @@ use Rattle.cue_render.specs.declared.part.SyntheticSnarePlayed.{Syntheti
 use Rattle.cue_render.specs.declared.part.HihatPlayed.{HihatPlayed}
 use Rattle.cue_render.specs.declared.kit.Kit.{Kit}
 use Rattle.cue_sheet.proofs.FirstLines.{HeadIn}
-use Rattle.cue_render.proofs.AcceptedSheet.{Fine, sheet-accepted}
+use Rattle.cue_render.proofs.AcceptedSheet.{CuesIn, sheet-accepted}
 
 -- ---- a sheet's rate is a sample rate
 whole-le : (m n : ℕ) → m ≤ n → n ≤ 2 ^ 24 → le (round binary32 false m 1) (round binary32 false n 1) ≡ true
@@ -56,7 +56,9 @@ after-kept step f same zero s = refl
 after-kept step f same (suc n) s = after-kept step f same n (step s .next) ∙ same s
 
 module _ (v : SyntheticSnare) (noise : ℕ) (accent f0 a decay c : Float) (n : ℕ) where
-  begun-rate : (trigger : Bool) → SyntheticSnareDrum.begun (SyntheticSnareDrum.settings (v .«sample_rate_hz») false f0 a decay c) v noise trigger accent decay n .voice .«sample_rate_hz» ≡ v .«sample_rate_hz»
+  begun-rate : (trigger : Bool)
+      → let b = SyntheticSnareDrum.settings (v .«sample_rate_hz») false f0 a decay c in
+      SyntheticSnareDrum.begun b v noise trigger accent decay n .voice .«sample_rate_hz» ≡ v .«sample_rate_hz»
   unfolding SyntheticSnareDrum.begun SyntheticSnareDrum.triggered SyntheticSnareDrum.tuned
   begun-rate true = refl
   begun-rate false = refl
@@ -65,8 +67,12 @@ module _ (v : SyntheticSnare) (noise : ℕ) (accent f0 a decay c : Float) (n : �
   unfolding SyntheticSnareDrum.ended SyntheticSnareDrum.step
   synthetic-rate trigger = go (SyntheticSnareDrum.renderRefusal (v .«sample_rate_hz») n accent f0 a decay c)
     where
-      go : (m : ℕ) → unlessRefused m (SyntheticSnareDrum.ended (SyntheticSnareDrum.played v noise false trigger accent f0 a decay c n)) v .«sample_rate_hz» ≡ v .«sample_rate_hz»
-      go zero = after-kept (SyntheticSnareDrum.turn (SyntheticSnareDrum.settings (v .«sample_rate_hz») false f0 a decay c)) (λ s. s .voice .«sample_rate_hz») (λ s. refl) n _ ∙ begun-rate trigger
+      go : (m : ℕ)
+          → unlessRefused m (SyntheticSnareDrum.ended (SyntheticSnareDrum.played v noise false trigger accent f0 a decay c n)) v .«sample_rate_hz»
+          ≡ v .«sample_rate_hz»
+      go zero =
+          let b = SyntheticSnareDrum.settings (v .«sample_rate_hz») false f0 a decay c in
+          after-kept (SyntheticSnareDrum.turn b) (λ s. s .voice .«sample_rate_hz») (λ s. refl) n _ ∙ begun-rate trigger
       go (suc m) = refl
 
 hihat-rate : (v : HihatVoice) (noise : ℕ) (trigger : Bool) (accent f0 a decay c : Float) (n : ℕ)
@@ -86,7 +92,8 @@ record Ready (k : Kit) : Type 0 where
   synthetic-rate : isSampleRate (k .«synthetic_snare» .voice .«sample_rate_hz») ≡ true
   hihat-rate : isSampleRate (k .hihat .voice .«sample_rate») ≡ true
 
-asked-all : (n : ℕ) (accent f0 a decay c : Float) (next : ℕ) → n ≤ 16384 → KnobsIn accent f0 a decay c → ask (isBlockLength n) 2 (askKnobs f0 accent a decay c next) ≡ next
+asked-all : (n : ℕ) (accent f0 a decay c : Float) (next : ℕ) → n ≤ 16384 → KnobsIn accent f0 a decay c
+    → ask (isBlockLength n) 2 (askKnobs f0 accent a decay c next) ≡ next
 asked-all n accent f0 a decay c next short k = rw (le-leb n 16384 short, k .frequency, k .accent-in, k .a-in, k .decay-in, k .c-in)
 
 zero-unit : isUnit (decimal 0 0) ≡ true
@@ -134,6 +141,8 @@ unfolding afterSegment bassAfter snareAfter syntheticSnareAfter hihatAfter
 segment-ready k n r =
     let y = k .«synthetic_snare» .playing in
     let h = k .hihat .playing in
+    let y-rate = synthetic-rate (k .«synthetic_snare» .voice) _ (y .knobs .accent) (y .knobs .f0) (y .knobs .a) (y .knobs .decay) (y .knobs .c) n (y .trigger) in
+    let h-rate = hihat-rate (k .hihat .voice) _ (h .trigger) (h .knobs .accent) (h .knobs .f0) (h .knobs .a) (h .knobs .decay) (h .knobs .c) n in
     record {
       bass = either (λ (p : BassPart). Passed (p .playing)) (k .bass .playing .struck) _ _ (r .bass) (r .bass);
       snare = either (λ (p : SnarePlayed). Passed (p .part .playing)) (k .snare .playing .struck) _ _ (r .snare) (r .snare);
@@ -141,21 +150,21 @@ segment-ready k n r =
       hihat = either (λ (p : HihatPlayed). Passed (p .part .playing)) (h .struck) _ _ (r .hihat) (r .hihat);
       synthetic-rate =
           either (λ (p : SyntheticSnarePlayed). isSampleRate (p .part .voice .«sample_rate_hz») ≡ true) (y .struck) _ _
-          (ap isSampleRate (synthetic-rate (k .«synthetic_snare» .voice) _ (y .knobs .accent) (y .knobs .f0) (y .knobs .a) (y .knobs .decay) (y .knobs .c) n (y .trigger)) ∙ r .synthetic-rate) (r .synthetic-rate);
+          (ap isSampleRate y-rate ∙ r .synthetic-rate) (r .synthetic-rate);
       hihat-rate =
           either (λ (p : HihatPlayed). isSampleRate (p .part .voice .«sample_rate») ≡ true) (h .struck) _ _
-          (ap isSampleRate (hihat-rate (k .hihat .voice) _ (h .trigger) (h .knobs .accent) (h .knobs .f0) (h .knobs .a) (h .knobs .decay) (h .knobs .c) n) ∙ r .hihat-rate) (r .hihat-rate);
+          (ap isSampleRate h-rate ∙ r .hihat-rate) (r .hihat-rate);
     }
 
 -- ---- the sheet
-segments-ready : (length : ℕ) → length ≤ 16384 → (k : Kit) (from leastStart : ℕ) (ss : List Strike) → Ready k → from ≤ leastStart → Fine length leastStart ss
-    → SegmentsAccepted length k from ss
-unfolding SegmentsAccepted Fine
-segments-ready length short k from leastStart [] r h fine = ready-accepted k (length - from) (omega arith) r
-segments-ready length short k from leastStart (s ∷ ss) r h fine =
-    let n = s .start - from in (
-      ready-accepted k n (omega (arith, fine .1)) r,
-      segments-ready length short (strike (afterSegment k n) (s .cue)) (s .start) (s .start + 1) ss (strike-ready (afterSegment k n) (s .cue) (fine .2) (segment-ready k n r)) (omega arith) (fine .3),
+segments-ready : (length : ℕ) → length ≤ 16384 → (k : Kit) (from : ℕ) (ss : List Strike) → Ready k → CuesIn length ss → SegmentsAccepted length k from ss
+unfolding SegmentsAccepted CuesIn
+segments-ready length short k from [] r cues = ready-accepted k (length - from) (omega arith) r
+segments-ready length short k from (s ∷ ss) r cues =
+    let played = afterSegment k (s .start - from) in
+    let next = strike-ready played (s .cue) (cues .1) (segment-ready k (s .start - from) r) in (
+      ready-accepted k (s .start - from) (omega (arith, cues .0)) r,
+      segments-ready length short (strike played (s .cue)) (s .start) ss next (cues .2),
     )
 
 pub never-refused : (sheet : List ℕ) (rate length cues : ℕ) → judge sheet ≡ accepted rate length cues
@@ -164,5 +173,5 @@ never-refused sheet rate length cues h =
     let known = sheet-accepted rate length cues sheet h in
     let in-range = sheet-rate rate length (known .0) in (
       record { bass = rw in-range; snare = rw in-range; synthetic-snare = rw in-range; hihat = rw in-range },
-      segments-ready length (known .0 .longest) (start rate) 0 0 (strikes sheet) (start-ready rate in-range) (omega arith) (known .1),
+      segments-ready length (known .0 .longest) (start rate) 0 (strikes sheet) (start-ready rate in-range) (known .1),
     )

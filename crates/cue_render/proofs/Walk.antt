@@ -84,6 +84,7 @@ module _ {sheet : List ℕ} {rate length : ℕ} {out₀ : List Float} {kit : Kit
         let h = cue-inside .0 in
         let below = cue-inside .1 in
         let within : to ≤ List.length out = omega (arith, w .room, below) in
+        let seg = segment kit (to - from) in
         record {
           judging = line-goes-on (w .judging) next ends more to cue read;
           inside = omega arith;
@@ -91,7 +92,14 @@ module _ {sheet : List ℕ} {rate length : ℕ} {out₀ : List Float} {kit : Kit
           room = omega (arith, w .room, long);
           long = long ∙ w .long;
           left =
-              rw (front out (segment kit (to - from)) out′ from to h within written long, back out (segment kit (to - from)) out′ from to h within written long length (omega arith), append-assoc, ← append-assoc (segment kit (to - from)), struck, after)
+              rw (
+                front out seg out′ from to h within written long,
+                back out seg out′ from to h within written long length (omega arith),
+                append-assoc,
+                ← append-assoc seg,
+                struck,
+                after,
+              )
               (rw (line-listed (w .judging) next ends more to cue read) at (w .left));
         }
 

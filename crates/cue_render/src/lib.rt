@@ -31,6 +31,7 @@ pub fn render(sheet: &[u8], out: &mut [f32]) -> Judgment
                     line: 0,
                 };
             }
+            // as long as the longest sheet
             let mut scratch = [0.0f32; 16384];
             render_lines(sheet, rate, length, cues, out, &mut scratch);
             Judgment::Accepted { rate, length, cues }

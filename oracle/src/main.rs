@@ -1,4 +1,4 @@
-//! Holds the port against the published Rust: `oracle record ROWS ANSWERS` or `oracle compare SIZE`.
+//! Holds the port against the published Rust: `oracle record ROWS ANSWERS`, `oracle sheets FILE..` or `oracle compare SIZE`.
 mod calls;
 mod replay;
 mod row;
@@ -11,9 +11,10 @@ fn main() {
     let args: Vec<String> = std::env::args().skip(1).collect();
     match args.iter().map(String::as_str).collect::<Vec<_>>()[..] {
         ["record", rows, answers] => replay::record(rows, answers),
+        ["sheets", ref files @ ..] => files.iter().for_each(|file| sheets::print(file)),
         ["compare", size] => compare(size.parse().expect("SIZE is a number")),
         _ => {
-            eprintln!("usage: oracle record ROWS ANSWERS | oracle compare SIZE");
+            eprintln!("usage: oracle record ROWS ANSWERS | oracle sheets FILE.. | oracle compare SIZE");
             std::process::exit(2);
         }
     }

@@ -24,6 +24,12 @@ pub fn compare(program: &str, count: u32, seed: u64) -> u64 {
     differ
 }
 
+/// The name of a sheet, and what `cues` must print for it.
+pub fn print(file: &str) {
+    let sheet = std::fs::read(file).expect("the sheet is there");
+    print!("{file}\n{}", text(&sheet));
+}
+
 /// What a program prints for an input. One that stops reading early may close its end first.
 pub fn run(program: &str, input: &[u8]) -> Vec<u8> {
     let mut child = Command::new(program).stdin(Stdio::piped()).stdout(Stdio::piped()).spawn().expect("the program starts");

@@ -1,5 +1,6 @@
 // The examples at the edges that are run: each prints the number that a call answers, 0 where it is accepted. Those that are theorems are in proofs/Table.antt.
 use analog_bass_drum::AnalogBassDrum;
+use cue_sheet::Judgment;
 use filter::Svf;
 use hihat::Hihat;
 use hihat::SquareNoise;
@@ -95,6 +96,18 @@ fn struck_unstarted(f0: f32, out: &mut [f32]) -> Answer {
     rendered.answer
 }
 
+// A sheet of two samples into a lent buffer.
+fn rendered(out: &mut [f32]) -> Answer {
+    match cue_render::render(b"48000,2\n", out) {
+        Judgment::Accepted {
+            rate: _,
+            length: _,
+            cues: _,
+        } => Answer::Accepted,
+        Judgment::Refused { refusal, line: _ } => Answer::Refused(refusal),
+    }
+}
+
 fn main() {
     print(b"rate 16000.0", started(16000.0));
     print(b"rate 15999.0", started(15999.0));
@@ -111,4 +124,9 @@ fn main() {
         b"a hi-hat of rate 0.0, f0 not-a-number",
         struck_unstarted(0.0 / 0.0, &mut block),
     );
+
+    let mut one = [0.0f32; 1];
+    print(b"a sheet of 2 samples into 1 place", rendered(&mut one));
+    let mut two = [0.0f32; 2];
+    print(b"a sheet of 2 samples into 2 places", rendered(&mut two));
 }

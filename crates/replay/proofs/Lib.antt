@@ -1,0 +1,4 @@
+pub mod Digests
+pub mod Places
+pub mod Refusals
+pub mod Rows

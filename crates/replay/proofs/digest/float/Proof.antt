@@ -1,0 +1,16 @@
+-- `replay::digest::float` meets its contract. Assumes nothing.
+use borrow.Author.Needs.{needs}
+use Rattle.replay.proofs.digest.float.Statement.{statement}
+use Rattle.replay.proofs.digest.float.Tie as tie
+
+pattern-of-requires : tie.Need-pattern-of-requires
+pattern-of-requires c κs = search needs
+
+word-requires : tie.Need-word-requires
+word-requires c κs = search needs
+
+returns : tie.Need-returns
+returns c = rw (c .word .ensures, c .before .pattern-of .ensures)
+
+pub float-spec : {M : Type 1} → statement M
+float-spec = tie.close (tie.spec pattern-of-requires word-requires returns)

@@ -1,0 +1,78 @@
+-- `replay::play::Voices::play` meets its contract. Assumes nothing.
+use Rattle.replay.specs.Play.{playFor}
+use borrow.Author.Needs.{needs}
+use Rattle.replay.proofs.play.Voices.play.Statement.{statement}
+use Rattle.replay.proofs.play.Voices.play.Tie as tie
+
+enum-told : tie.Need-enum-told
+enum-told c = search needs
+
+bass-requires : tie.Need-bass-requires
+bass-requires c κs = search needs
+
+enum-told-2 : tie.Need-enum-told-2
+enum-told-2 c = search needs
+
+snare-requires : tie.Need-snare-requires
+snare-requires c κs = search needs
+
+enum-told-3 : tie.Need-enum-told-3
+enum-told-3 c = search needs
+
+synthetic-snare-requires : tie.Need-synthetic-snare-requires
+synthetic-snare-requires c κs = search needs
+
+enum-told-4 : tie.Need-enum-told-4
+enum-told-4 c = search needs
+
+hihat-requires : tie.Need-hihat-requires
+hihat-requires c κs = search needs
+
+same-length : tie.Need-same-length
+same-length c = search needs
+
+returns : tie.Need-returns
+unfolding playFor
+returns c = rw (c .before .before .before .before .bass .ensures, c .before .before .before .before .before .before .enum-told .given .1)
+
+same-length-2 : tie.Need-same-length-2
+same-length-2 c = search needs
+
+returns-2 : tie.Need-returns-2
+unfolding playFor
+returns-2 c = rw (c .before .before .before .before .snare .ensures, c .before .before .before .before .before .before .enum-told2 .given .1)
+
+same-length-3 : tie.Need-same-length-3
+same-length-3 c = search needs
+
+returns-3 : tie.Need-returns-3
+unfolding playFor
+returns-3 c = rw (c .before .before .before .before .synthetic-snare .ensures, c .before .before .before .before .before .before .enum-told3 .given .1)
+
+same-length-4 : tie.Need-same-length-4
+same-length-4 c = search needs
+
+returns-4 : tie.Need-returns-4
+unfolding playFor
+returns-4 c = rw (c .before .before .before .before .hihat .ensures, c .before .before .before .before .before .before .enum-told4 .given .1)
+
+pub play-spec : {M : Type 1} → statement M
+play-spec =
+    tie.close
+    (tie.spec
+    enum-told
+    bass-requires
+    enum-told-2
+    snare-requires
+    enum-told-3
+    synthetic-snare-requires
+    enum-told-4
+    hihat-requires
+    same-length
+    returns
+    same-length-2
+    returns-2
+    same-length-3
+    returns-3
+    same-length-4
+    returns-4)

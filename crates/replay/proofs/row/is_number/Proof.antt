@@ -1,0 +1,10 @@
+-- `replay::row::is_number` meets its contract. Assumes nothing.
+use Rattle.cue_sheet.proofs.NotANumber.{number-bits}
+use Rattle.replay.proofs.row.is_number.Statement.{statement}
+use Rattle.replay.proofs.row.is_number.Tie as tie
+
+returns : tie.Need-returns
+returns c = number-bits (c .args .bits)
+
+pub is-number-spec : {M : Type 1} → statement M
+is-number-spec = tie.close (tie.spec returns)

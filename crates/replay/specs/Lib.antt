@@ -1,0 +1,6 @@
+pub mod Digest
+pub mod Play
+pub mod Response
+pub mod Row
+pub mod State
+pub mod Zero

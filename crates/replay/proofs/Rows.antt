@@ -1,7 +1,7 @@
 -- A row that is read asks for at most 16,385 samples; what a text leaves written. Assumes nothing.
 use Prim.Native.Nat.{ℕ, _≤_}
 use native.Mathlib.Omega.{arith}
-use mathlib.Core.Path.{_≡_, refl, ap}
+use mathlib.Core.Path.{_≡_, refl}
 use mathlib.Core.Bool.{Bool, true, false, _&&_, cond}
 use mathlib.Core.List.{List}
 use lib.ListN.{length}
@@ -10,7 +10,6 @@ use Rattle.text.specs.Write.{Written}
 use Rattle.text.proofs.Written.{same-length}
 use Rattle.text.specs.declared.read.Number.{Number}
 use Rattle.text.specs.declared.read.Number.the-variants.{Value, Invalid}
-use Rattle.replay.specs.declared.row.Line.{Line}
 use Rattle.replay.specs.declared.row.Line.the-variants.{Row as Read, Malformed}
 use Rattle.replay.specs.declared.row.Row.{Row}
 use Rattle.replay.specs.Row.{number, value, isAtMost, hasFields, isWellFormed, rowOf, read}

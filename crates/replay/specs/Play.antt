@@ -18,10 +18,6 @@ use Rattle.hihat.specs.declared.VcaType.the-variants.{Swing, Linear}
 use Rattle.replay.specs.Digest.{digest, patterns}
 use Rattle.replay.specs.State as State
 use Rattle.replay.specs.Zero as Zero
-use Rattle.replay.specs.declared.play.BassPlayed.{BassPlayed}
-use Rattle.replay.specs.declared.play.SnarePlayed.{SnarePlayed}
-use Rattle.replay.specs.declared.play.SyntheticSnarePlayed.{SyntheticSnarePlayed}
-use Rattle.replay.specs.declared.play.HihatPlayed.{HihatPlayed}
 use Rattle.replay.specs.declared.play.Played.{Played}
 use Rattle.replay.specs.declared.play.Voices.{Voices}
 use Rattle.replay.specs.declared.row.Call.{Call}
@@ -40,120 +36,120 @@ vcaType false = Swing
 
 -- ---- AnalogBassDrum
 
--- a voice after a call, and what the call is told
-unfoldable pub playedBass : AnalogBassDrum → ℕ → ℕ → ℕ → BassPlayed
-playedBass voice refusal noise samples =
+-- the voices after a call, and what the call is told
+unfoldable pub withBass : Voices → AnalogBassDrum → ℕ → ℕ → ℕ → Played
+withBass v voice refusal noise samples =
     record {
-      voice = voice;
+      voices = record { bass = voice; snare = v .snare; «synthetic_snare» = v .«synthetic_snare»; hihat = v .hihat };
       reply = record { refusal = refusal; noise = noise; samples = samples; state = digest (State.bass voice) };
     }
 
-unfoldable pub renderedBass : AnalogBassDrum → Row → List Float → BassPlayed
-renderedBass v row out =
+unfoldable pub renderBass : Voices → Row → List Float → Played
+renderBass v row out =
     let refusal = AnalogBassDrum.renderRefusal (length out) (row .w1) (row .w2) (row .w3) (row .w4) (row .w5) (row .w6) in
-    playedBass
-    (AnalogBassDrum.render v (row .trigger) (row .w1) (row .w2) (row .w3) (row .w4) (row .w5) (row .w6) (length out))
+    withBass v
+    (AnalogBassDrum.render (v .bass) (row .trigger) (row .w1) (row .w2) (row .w3) (row .w4) (row .w5) (row .w6) (length out))
     refusal
     (row .noise)
-    (samplesDigest refusal (AnalogBassDrum.renderOut v (row .trigger) (row .w1) (row .w2) (row .w3) (row .w4) (row .w5) (row .w6) out))
+    (samplesDigest refusal (AnalogBassDrum.renderOut (v .bass) (row .trigger) (row .w1) (row .w2) (row .w3) (row .w4) (row .w5) (row .w6) out))
 
-unfoldable pub bassFor : Call → AnalogBassDrum → Row → List Float → BassPlayed
-bassFor Zero v row out = playedBass Zero.bass 0 (row .noise) (digest [])
-bassFor Init v row out = playedBass (AnalogBassDrum.init v (row .w1)) (AnalogBassDrum.initRefusal (row .w1)) (row .noise) (digest [])
-bassFor Render v row out = renderedBass v row out
+unfoldable pub callBass : Call → Voices → Row → List Float → Played
+callBass Zero v row out = withBass v Zero.bass 0 (row .noise) (digest [])
+callBass Init v row out = withBass v (AnalogBassDrum.init (v .bass) (row .w1)) (AnalogBassDrum.initRefusal (row .w1)) (row .noise) (digest [])
+callBass Render v row out = renderBass v row out
 
-abbrev pub bass : AnalogBassDrum → Row → List Float → BassPlayed
-bass v row out = bassFor (row .call) v row out
+abbrev pub playBass : Voices → Row → List Float → Played
+playBass v row out = callBass (row .call) v row out
 
 -- ---- AnalogSnareDrum
 
--- a voice after a call, and what the call is told
-unfoldable pub playedSnare : AnalogSnareDrum → ℕ → ℕ → ℕ → SnarePlayed
-playedSnare voice refusal noise samples =
+-- the voices after a call, and what the call is told
+unfoldable pub withSnare : Voices → AnalogSnareDrum → ℕ → ℕ → ℕ → Played
+withSnare v voice refusal noise samples =
     record {
-      voice = voice;
+      voices = record { bass = v .bass; snare = voice; «synthetic_snare» = v .«synthetic_snare»; hihat = v .hihat };
       reply = record { refusal = refusal; noise = noise; samples = samples; state = digest (State.snare voice) };
     }
 
-unfoldable pub renderedSnare : AnalogSnareDrum → Row → List Float → SnarePlayed
-renderedSnare v row out =
+unfoldable pub renderSnare : Voices → Row → List Float → Played
+renderSnare v row out =
     let refusal = AnalogSnareDrum.renderRefusal (length out) (row .w1) (row .w2) (row .w3) (row .w4) (row .w5) in
-    playedSnare
-    (AnalogSnareDrum.render v (row .noise) (row .trigger) (row .w1) (row .w2) (row .w3) (row .w4) (row .w5) (length out) .voice)
+    withSnare v
+    (AnalogSnareDrum.render (v .snare) (row .noise) (row .trigger) (row .w1) (row .w2) (row .w3) (row .w4) (row .w5) (length out) .voice)
     refusal
-    (AnalogSnareDrum.render v (row .noise) (row .trigger) (row .w1) (row .w2) (row .w3) (row .w4) (row .w5) (length out) .noise)
-    (samplesDigest refusal (AnalogSnareDrum.renderOut v (row .noise) (row .trigger) (row .w1) (row .w2) (row .w3) (row .w4) (row .w5) out))
+    (AnalogSnareDrum.render (v .snare) (row .noise) (row .trigger) (row .w1) (row .w2) (row .w3) (row .w4) (row .w5) (length out) .noise)
+    (samplesDigest refusal (AnalogSnareDrum.renderOut (v .snare) (row .noise) (row .trigger) (row .w1) (row .w2) (row .w3) (row .w4) (row .w5) out))
 
-unfoldable pub snareFor : Call → AnalogSnareDrum → Row → List Float → SnarePlayed
-snareFor Zero v row out = playedSnare Zero.snare 0 (row .noise) (digest [])
-snareFor Init v row out = playedSnare (AnalogSnareDrum.init v (row .w1)) (AnalogSnareDrum.initRefusal (row .w1)) (row .noise) (digest [])
-snareFor Render v row out = renderedSnare v row out
+unfoldable pub callSnare : Call → Voices → Row → List Float → Played
+callSnare Zero v row out = withSnare v Zero.snare 0 (row .noise) (digest [])
+callSnare Init v row out = withSnare v (AnalogSnareDrum.init (v .snare) (row .w1)) (AnalogSnareDrum.initRefusal (row .w1)) (row .noise) (digest [])
+callSnare Render v row out = renderSnare v row out
 
-abbrev pub snare : AnalogSnareDrum → Row → List Float → SnarePlayed
-snare v row out = snareFor (row .call) v row out
+abbrev pub playSnare : Voices → Row → List Float → Played
+playSnare v row out = callSnare (row .call) v row out
 
 -- ---- SyntheticSnareDrum
 
--- a voice after a call, and what the call is told
-unfoldable pub playedSyntheticSnare : SyntheticSnareDrum → ℕ → ℕ → ℕ → SyntheticSnarePlayed
-playedSyntheticSnare voice refusal noise samples =
+-- the voices after a call, and what the call is told
+unfoldable pub withSyntheticSnare : Voices → SyntheticSnareDrum → ℕ → ℕ → ℕ → Played
+withSyntheticSnare v voice refusal noise samples =
     record {
-      voice = voice;
+      voices = record { bass = v .bass; snare = v .snare; «synthetic_snare» = voice; hihat = v .hihat };
       reply = record { refusal = refusal; noise = noise; samples = samples; state = digest (State.syntheticSnare voice) };
     }
 
-unfoldable pub renderedSyntheticSnare : SyntheticSnareDrum → Row → List Float → SyntheticSnarePlayed
-renderedSyntheticSnare v row out =
-    let refusal = SyntheticSnareDrum.renderRefusal (v .«sample_rate_hz») (length out) (row .w1) (row .w2) (row .w3) (row .w4) (row .w5) in
-    playedSyntheticSnare
-    (SyntheticSnareDrum.render v (row .noise) (row .sustain) (row .trigger) (row .w1) (row .w2) (row .w3) (row .w4) (row .w5) (length out))
+unfoldable pub renderSyntheticSnare : Voices → Row → List Float → Played
+renderSyntheticSnare v row out =
+    let refusal = SyntheticSnareDrum.renderRefusal (v .«synthetic_snare» .«sample_rate_hz») (length out) (row .w1) (row .w2) (row .w3) (row .w4) (row .w5) in
+    withSyntheticSnare v
+    (SyntheticSnareDrum.render (v .«synthetic_snare») (row .noise) (row .sustain) (row .trigger) (row .w1) (row .w2) (row .w3) (row .w4) (row .w5) (length out))
     refusal
-    (SyntheticSnareDrum.renderNoise v (row .noise) (row .sustain) (row .trigger) (row .w1) (row .w2) (row .w3) (row .w4) (row .w5) (length out))
-    (samplesDigest refusal (SyntheticSnareDrum.renderOut v (row .noise) (row .sustain) (row .trigger) (row .w1) (row .w2) (row .w3) (row .w4) (row .w5) out))
+    (SyntheticSnareDrum.renderNoise (v .«synthetic_snare») (row .noise) (row .sustain) (row .trigger) (row .w1) (row .w2) (row .w3) (row .w4) (row .w5) (length out))
+    (samplesDigest refusal (SyntheticSnareDrum.renderOut (v .«synthetic_snare») (row .noise) (row .sustain) (row .trigger) (row .w1) (row .w2) (row .w3) (row .w4) (row .w5) out))
 
-unfoldable pub syntheticSnareFor : Call → SyntheticSnareDrum → Row → List Float → SyntheticSnarePlayed
-syntheticSnareFor Zero v row out = playedSyntheticSnare Zero.syntheticSnare 0 (row .noise) (digest [])
-syntheticSnareFor Init v row out = playedSyntheticSnare (SyntheticSnareDrum.init v (row .w1)) (SyntheticSnareDrum.initRefusal (row .w1)) (row .noise) (digest [])
-syntheticSnareFor Render v row out = renderedSyntheticSnare v row out
+unfoldable pub callSyntheticSnare : Call → Voices → Row → List Float → Played
+callSyntheticSnare Zero v row out = withSyntheticSnare v Zero.syntheticSnare 0 (row .noise) (digest [])
+callSyntheticSnare Init v row out = withSyntheticSnare v (SyntheticSnareDrum.init (v .«synthetic_snare») (row .w1)) (SyntheticSnareDrum.initRefusal (row .w1)) (row .noise) (digest [])
+callSyntheticSnare Render v row out = renderSyntheticSnare v row out
 
-abbrev pub syntheticSnare : SyntheticSnareDrum → Row → List Float → SyntheticSnarePlayed
-syntheticSnare v row out = syntheticSnareFor (row .call) v row out
+abbrev pub playSyntheticSnare : Voices → Row → List Float → Played
+playSyntheticSnare v row out = callSyntheticSnare (row .call) v row out
 
 -- ---- Hihat
 
--- a voice after a call, and what the call is told
-unfoldable pub playedHihat : Hihat → ℕ → ℕ → ℕ → HihatPlayed
-playedHihat voice refusal noise samples =
+-- the voices after a call, and what the call is told
+unfoldable pub withHihat : Voices → Hihat → ℕ → ℕ → ℕ → Played
+withHihat v voice refusal noise samples =
     record {
-      voice = voice;
+      voices = record { bass = v .bass; snare = v .snare; «synthetic_snare» = v .«synthetic_snare»; hihat = voice };
       reply = record { refusal = refusal; noise = noise; samples = samples; state = digest (State.hihat voice) };
     }
 
-unfoldable pub renderedHihat : Hihat → Row → VcaType → List Float → HihatPlayed
-renderedHihat v row vcaType out =
-    let refusal = Hihat.renderRefusal (v .«sample_rate») (length out) (row .w1) (row .w2) (row .w3) (row .w4) (row .w5) in
-    playedHihat
-    (Hihat.render v (row .noise) (row .sustain) (row .trigger) (row .w1) (row .w2) (row .w3) (row .w4) (row .w5) (length out) vcaType (row .resonance) (row .«two_stage_envelope»))
+unfoldable pub renderHihat : Voices → Row → VcaType → List Float → Played
+renderHihat v row vcaType out =
+    let refusal = Hihat.renderRefusal (v .hihat .«sample_rate») (length out) (row .w1) (row .w2) (row .w3) (row .w4) (row .w5) in
+    withHihat v
+    (Hihat.render (v .hihat) (row .noise) (row .sustain) (row .trigger) (row .w1) (row .w2) (row .w3) (row .w4) (row .w5) (length out) vcaType (row .resonance) (row .«two_stage_envelope»))
     refusal
-    (Hihat.renderNoise v (row .noise) (row .sustain) (row .trigger) (row .w1) (row .w2) (row .w3) (row .w4) (row .w5) (length out) vcaType (row .resonance) (row .«two_stage_envelope»))
-    (samplesDigest refusal (Hihat.renderOut v (row .noise) (row .sustain) (row .trigger) (row .w1) (row .w2) (row .w3) (row .w4) (row .w5) out vcaType (row .resonance) (row .«two_stage_envelope»)))
+    (Hihat.renderNoise (v .hihat) (row .noise) (row .sustain) (row .trigger) (row .w1) (row .w2) (row .w3) (row .w4) (row .w5) (length out) vcaType (row .resonance) (row .«two_stage_envelope»))
+    (samplesDigest refusal (Hihat.renderOut (v .hihat) (row .noise) (row .sustain) (row .trigger) (row .w1) (row .w2) (row .w3) (row .w4) (row .w5) out vcaType (row .resonance) (row .«two_stage_envelope»)))
 
-unfoldable pub hihatFor : Call → Hihat → Row → List Float → HihatPlayed
-hihatFor Zero v row out = playedHihat Zero.hihat 0 (row .noise) (digest [])
-hihatFor Init v row out = playedHihat (Hihat.init v (row .w1)) (Hihat.initRefusal (row .w1)) (row .noise) (digest [])
-hihatFor Render v row out = renderedHihat v row (vcaType (row .linear)) out
+unfoldable pub callHihat : Call → Voices → Row → List Float → Played
+callHihat Zero v row out = withHihat v Zero.hihat 0 (row .noise) (digest [])
+callHihat Init v row out = withHihat v (Hihat.init (v .hihat) (row .w1)) (Hihat.initRefusal (row .w1)) (row .noise) (digest [])
+callHihat Render v row out = renderHihat v row (vcaType (row .linear)) out
 
-abbrev pub hihat : Hihat → Row → List Float → HihatPlayed
-hihat v row out = hihatFor (row .call) v row out
+abbrev pub playHihat : Voices → Row → List Float → Played
+playHihat v row out = callHihat (row .call) v row out
 
 -- ---- all four
 
--- the row answered by its voice; the others stay as they are
+-- the row answered by its voice
 unfoldable pub playFor : Voice → Voices → Row → List Float → Played
-playFor Bass v row out = let p = bass (v .bass) row out in record { voices = record { bass = p .voice; snare = v .snare; «synthetic_snare» = v .«synthetic_snare»; hihat = v .hihat }; reply = p .reply }
-playFor Snare v row out = let p = snare (v .snare) row out in record { voices = record { bass = v .bass; snare = p .voice; «synthetic_snare» = v .«synthetic_snare»; hihat = v .hihat }; reply = p .reply }
-playFor SyntheticSnare v row out = let p = syntheticSnare (v .«synthetic_snare») row out in record { voices = record { bass = v .bass; snare = v .snare; «synthetic_snare» = p .voice; hihat = v .hihat }; reply = p .reply }
-playFor Hat v row out = let p = hihat (v .hihat) row out in record { voices = record { bass = v .bass; snare = v .snare; «synthetic_snare» = v .«synthetic_snare»; hihat = p .voice }; reply = p .reply }
+playFor Bass v row out = playBass v row out
+playFor Snare v row out = playSnare v row out
+playFor SyntheticSnare v row out = playSyntheticSnare v row out
+playFor Hat v row out = playHihat v row out
 
 abbrev pub play : Voices → Row → List Float → Played
 play v row out = playFor (row .voice) v row out

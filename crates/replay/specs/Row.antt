@@ -1,8 +1,8 @@
 -- A row, read. Definitions only.
 use Prim.Native.Nat.{ℕ, _/_, _%_}
 use Prim.Native.Char.{code}
-use mathlib.Core.Bool.{Bool, true, false, _&&_, _||_, cond}
-use mathlib.Core.List.{List, [], _∷_, _++_}
+use mathlib.Core.Bool.{Bool, false, _&&_, _||_, cond}
+use mathlib.Core.List.{List, [], _∷_}
 use lib.Dec.{leb, eqb}
 use lib.Ieee.{Float, binary32, ofBits}
 use lib.ListN.{length, getD, take, drop}

@@ -1,8 +1,19 @@
-// Answers rows from standard input, so that any oracle can drive the four voices. Each row is one call, on the record that the voice's last row left;
-// before the first, every record is zero.
+// Answers rows from standard input, so that any oracle can drive the four voices. A row is one call, on the record that the voice's last row left; before the
+// first row every record is zero. It has 79 bytes with its line end, parted by single spaces; its numbers have lower-case hexadecimal digits.
 //
 //     row     V K FF NNNNNNNN W1 W2 W3 W4 W5 W6 SSSSSSSS
 //     answer  RR SSSSSSSS DDDDDDDD TTTTTTTT
+//
+//     V   b s y h: analog bass drum, analog snare drum, synthetic snare drum, hi-hat
+//     K   n, a record with every field zero; i, init; r, render
+//     FF  flags: 1 sustain, 2 trigger, 4 linear VCA, 8 resonance, 10 two-stage envelope
+//     N   samples        W   patterns of floats        S   the noise state before the call, and after it
+//     R   the number of the refusal, 00 for an accepted call        D, T   the digests of the samples and of the voice's state
+//
+// The words of `init` are the rate and five that it does not read; those of `render` are accent, f0, a, decay, c and the bass drum's self_fm_amount (for the other
+// voices a word that they do not read), with a and c as on a cue line. Flags that a voice has no use for change nothing. Calls `n` and `i` render nothing, whatever
+// their N, and hand the noise state back. More than 4001 samples, flags above 1f, and a last line without its line end are malformed, as any other text that is no row:
+// such a line gets `refused,8,K`, K its number from 1, and ends the run.
 mod digest; // digest.rt: digests of words and of samples
 mod play; // play.rt: a row answered by its voice
 mod row; // row.rt: a row read
@@ -30,6 +41,7 @@ struct Response {
     goes_on: bool,
 }
 
+// The voices after a turn of the loop, and whether there is another.
 struct Turn {
     voices: Voices,
     goes_on: bool,
@@ -61,6 +73,7 @@ fn put_refused(out: &mut [u8], number: u64) -> usize
     text::write::byte(out, end, b'\n')
 }
 
+// What a line gets, at the start of `out`: an answer has 30 bytes, and a refusal at most 31.
 fn respond(
     voices: Voices,
     number: u64,
@@ -97,6 +110,7 @@ fn respond(
     }
 }
 
+// One line read and answered. A read of no bytes ends the run.
 fn answer_row(voices: Voices, number: u64, samples: &mut [f32]) -> Turn
     requires { ⌜ 16385 ≤ length (now samples) ⌝ }
 {
@@ -119,6 +133,7 @@ fn answer_row(voices: Voices, number: u64, samples: &mut [f32]) -> Turn
     }
 }
 
+// A proved loop has to end, and nothing says that the input does: the loop counts its rows up to a number that no run reaches.
 fn run(samples: &mut [f32])
     requires { ⌜ 16385 ≤ length (now samples) ⌝ }
 {

@@ -35,26 +35,6 @@ pub(crate) struct Played {
     pub reply: Reply,
 }
 
-struct BassPlayed {
-    voice: AnalogBassDrum,
-    reply: Reply,
-}
-
-struct SnarePlayed {
-    voice: AnalogSnareDrum,
-    reply: Reply,
-}
-
-struct SyntheticSnarePlayed {
-    voice: SyntheticSnareDrum,
-    reply: Reply,
-}
-
-struct HihatPlayed {
-    voice: Hihat,
-    reply: Reply,
-}
-
 // The digest of the samples of a call with this refusal: that of no word where it is refused.
 fn samples_digest(refusal: u32, out: &[f32]) -> u32
     ensures { λ r. ⌜ r ≡ spec.samplesDigest refusal (now (out .entry)) ⌝ }
@@ -66,160 +46,6 @@ fn samples_digest(refusal: u32, out: &[f32]) -> u32
     }
 }
 
-fn played_bass(voice: AnalogBassDrum, refusal: u32, noise: u32, samples: u32) -> BassPlayed
-    ensures { λ r. ⌜ r ≡ spec.playedBass voice refusal noise samples ⌝ }
-{
-    let reply = Reply {
-        refusal,
-        noise,
-        samples,
-        state: state::bass(voice),
-    };
-    BassPlayed { voice, reply }
-}
-
-fn bass(voice: AnalogBassDrum, row: Row, out: &mut [f32]) -> BassPlayed
-    ensures { λ r. ⌜ r ≡ spec.bass voice row (now (out .entry)) ⌝ }
-{
-    let call = row.call;
-    match call {
-        Call::Zero => played_bass(zero::bass(), 0, row.noise, START),
-        Call::Init => {
-            let a = voice.init(row.w1);
-            let next = a.voice;
-            let answer = a.answer;
-            played_bass(next, answer.number(), row.noise, START)
-        }
-        Call::Render => rendered_bass(voice, row, out),
-    }
-}
-
-fn rendered_bass(voice: AnalogBassDrum, row: Row, out: &mut [f32]) -> BassPlayed
-    ensures { λ r. ⌜ r ≡ spec.renderedBass voice row (now (out .entry)) ⌝ }
-{
-    let a = voice.render(
-        row.trigger,
-        row.w1,
-        row.w2,
-        row.w3,
-        row.w4,
-        row.w5,
-        row.w6,
-        out,
-    );
-    let next = a.voice;
-    let answer = a.answer;
-    let refusal = answer.number();
-    let samples = samples_digest(refusal, out);
-    played_bass(next, refusal, row.noise, samples)
-}
-
-fn played_snare(voice: AnalogSnareDrum, refusal: u32, noise: u32, samples: u32) -> SnarePlayed
-    ensures { λ r. ⌜ r ≡ spec.playedSnare voice refusal noise samples ⌝ }
-{
-    let reply = Reply {
-        refusal,
-        noise,
-        samples,
-        state: state::snare(voice),
-    };
-    SnarePlayed { voice, reply }
-}
-
-fn snare(voice: AnalogSnareDrum, row: Row, out: &mut [f32]) -> SnarePlayed
-    ensures { λ r. ⌜ r ≡ spec.snare voice row (now (out .entry)) ⌝ }
-{
-    let call = row.call;
-    match call {
-        Call::Zero => played_snare(zero::snare(), 0, row.noise, START),
-        Call::Init => {
-            let a = voice.init(row.w1);
-            let next = a.voice;
-            let answer = a.answer;
-            played_snare(next, answer.number(), row.noise, START)
-        }
-        Call::Render => rendered_snare(voice, row, out),
-    }
-}
-
-fn rendered_snare(voice: AnalogSnareDrum, row: Row, out: &mut [f32]) -> SnarePlayed
-    ensures { λ r. ⌜ r ≡ spec.renderedSnare voice row (now (out .entry)) ⌝ }
-{
-    let a = voice.render(
-        row.noise,
-        row.trigger,
-        row.w1,
-        row.w2,
-        row.w3,
-        row.w4,
-        row.w5,
-        out,
-    );
-    let next = a.voice;
-    let answer = a.answer;
-    let refusal = answer.number();
-    let samples = samples_digest(refusal, out);
-    played_snare(next, refusal, a.noise, samples)
-}
-
-fn played_synthetic_snare(
-    voice: SyntheticSnareDrum,
-    refusal: u32,
-    noise: u32,
-    samples: u32,
-) -> SyntheticSnarePlayed
-    ensures { λ r. ⌜ r ≡ spec.playedSyntheticSnare voice refusal noise samples ⌝ }
-{
-    let reply = Reply {
-        refusal,
-        noise,
-        samples,
-        state: state::synthetic_snare(voice),
-    };
-    SyntheticSnarePlayed { voice, reply }
-}
-
-fn synthetic_snare(voice: SyntheticSnareDrum, row: Row, out: &mut [f32]) -> SyntheticSnarePlayed
-    ensures { λ r. ⌜ r ≡ spec.syntheticSnare voice row (now (out .entry)) ⌝ }
-{
-    let call = row.call;
-    match call {
-        Call::Zero => played_synthetic_snare(zero::synthetic_snare(), 0, row.noise, START),
-        Call::Init => {
-            let a = voice.init(row.w1);
-            let next = a.voice;
-            let answer = a.answer;
-            played_synthetic_snare(next, answer.number(), row.noise, START)
-        }
-        Call::Render => rendered_synthetic_snare(voice, row, out),
-    }
-}
-
-fn rendered_synthetic_snare(
-    voice: SyntheticSnareDrum,
-    row: Row,
-    out: &mut [f32],
-) -> SyntheticSnarePlayed
-    ensures { λ r. ⌜ r ≡ spec.renderedSyntheticSnare voice row (now (out .entry)) ⌝ }
-{
-    let a = voice.render(
-        row.noise,
-        row.sustain,
-        row.trigger,
-        row.w1,
-        row.w2,
-        row.w3,
-        row.w4,
-        row.w5,
-        out,
-    );
-    let next = a.voice;
-    let answer = a.answer;
-    let refusal = answer.number();
-    let samples = samples_digest(refusal, out);
-    played_synthetic_snare(next, refusal, a.noise, samples)
-}
-
 fn vca_type(linear: bool) -> VcaType
     ensures { λ r. ⌜ r ≡ spec.vcaType linear ⌝ }
 {
@@ -228,58 +54,6 @@ fn vca_type(linear: bool) -> VcaType
     } else {
         VcaType::Swing
     }
-}
-
-fn played_hihat(voice: Hihat, refusal: u32, noise: u32, samples: u32) -> HihatPlayed
-    ensures { λ r. ⌜ r ≡ spec.playedHihat voice refusal noise samples ⌝ }
-{
-    let reply = Reply {
-        refusal,
-        noise,
-        samples,
-        state: state::hihat(voice),
-    };
-    HihatPlayed { voice, reply }
-}
-
-fn hihat(voice: Hihat, row: Row, out: &mut [f32]) -> HihatPlayed
-    ensures { λ r. ⌜ r ≡ spec.hihat voice row (now (out .entry)) ⌝ }
-{
-    let call = row.call;
-    match call {
-        Call::Zero => played_hihat(zero::hihat(), 0, row.noise, START),
-        Call::Init => {
-            let a = voice.init(row.w1);
-            let next = a.voice;
-            let answer = a.answer;
-            played_hihat(next, answer.number(), row.noise, START)
-        }
-        Call::Render => rendered_hihat(voice, row, vca_type(row.linear), out),
-    }
-}
-
-fn rendered_hihat(voice: Hihat, row: Row, vca_type: VcaType, out: &mut [f32]) -> HihatPlayed
-    ensures { λ r. ⌜ r ≡ spec.renderedHihat voice row «vca_type» (now (out .entry)) ⌝ }
-{
-    let a = voice.render(
-        row.noise,
-        row.sustain,
-        row.trigger,
-        row.w1,
-        row.w2,
-        row.w3,
-        row.w4,
-        row.w5,
-        out,
-        vca_type,
-        row.resonance,
-        row.two_stage_envelope,
-    );
-    let next = a.voice;
-    let answer = a.answer;
-    let refusal = answer.number();
-    let samples = samples_digest(refusal, out);
-    played_hihat(next, refusal, a.noise, samples)
 }
 
 impl Voices {
@@ -299,51 +73,244 @@ impl Voices {
     }
 
     // The row answered by its voice; the others stay as they are.
-    pub(crate) fn play(mut self, row: Row, out: &mut [f32]) -> Played
+    pub(crate) fn play(self, row: Row, out: &mut [f32]) -> Played
         ensures { λ r. ⌜ r ≡ spec.play self row (now (out .entry)) ⌝ }
     {
         let voice = row.voice;
         match voice {
-            Voice::Bass => {
-                let p = bass(self.bass, row, out);
-                let next = p.voice;
-                self.bass = next;
-                let reply = p.reply;
-                Played {
-                    voices: self,
-                    reply,
-                }
+            Voice::Bass => self.play_bass(row, out),
+            Voice::Snare => self.play_snare(row, out),
+            Voice::SyntheticSnare => self.play_synthetic_snare(row, out),
+            Voice::Hihat => self.play_hihat(row, out),
+        }
+    }
+
+    fn play_bass(self, row: Row, out: &mut [f32]) -> Played
+        ensures { λ r. ⌜ r ≡ spec.playBass self row (now (out .entry)) ⌝ }
+    {
+        let call = row.call;
+        match call {
+            Call::Zero => self.with_bass(zero::bass(), 0, row.noise, START),
+            Call::Init => {
+                let a = self.bass.init(row.w1);
+                let voice = a.voice;
+                let answer = a.answer;
+                self.with_bass(voice, answer.number(), row.noise, START)
             }
-            Voice::Snare => {
-                let p = snare(self.snare, row, out);
-                let next = p.voice;
-                self.snare = next;
-                let reply = p.reply;
-                Played {
-                    voices: self,
-                    reply,
-                }
+            Call::Render => self.render_bass(row, out),
+        }
+    }
+
+    fn render_bass(self, row: Row, out: &mut [f32]) -> Played
+        ensures { λ r. ⌜ r ≡ spec.renderBass self row (now (out .entry)) ⌝ }
+    {
+        let a = self.bass.render(
+            row.trigger,
+            row.w1,
+            row.w2,
+            row.w3,
+            row.w4,
+            row.w5,
+            row.w6,
+            out,
+        );
+        let voice = a.voice;
+        let answer = a.answer;
+        let refusal = answer.number();
+        let samples = samples_digest(refusal, out);
+        self.with_bass(voice, refusal, row.noise, samples)
+    }
+
+    // The voices after a call of the AnalogBassDrum, and what the call is told.
+    fn with_bass(mut self, voice: AnalogBassDrum, refusal: u32, noise: u32, samples: u32) -> Played
+        ensures { λ r. ⌜ r ≡ spec.withBass self voice refusal noise samples ⌝ }
+    {
+        self.bass = voice;
+        let reply = Reply {
+            refusal,
+            noise,
+            samples,
+            state: state::bass(voice),
+        };
+        Played {
+            voices: self,
+            reply,
+        }
+    }
+
+    fn play_snare(self, row: Row, out: &mut [f32]) -> Played
+        ensures { λ r. ⌜ r ≡ spec.playSnare self row (now (out .entry)) ⌝ }
+    {
+        let call = row.call;
+        match call {
+            Call::Zero => self.with_snare(zero::snare(), 0, row.noise, START),
+            Call::Init => {
+                let a = self.snare.init(row.w1);
+                let voice = a.voice;
+                let answer = a.answer;
+                self.with_snare(voice, answer.number(), row.noise, START)
             }
-            Voice::SyntheticSnare => {
-                let p = synthetic_snare(self.synthetic_snare, row, out);
-                let next = p.voice;
-                self.synthetic_snare = next;
-                let reply = p.reply;
-                Played {
-                    voices: self,
-                    reply,
-                }
+            Call::Render => self.render_snare(row, out),
+        }
+    }
+
+    fn render_snare(self, row: Row, out: &mut [f32]) -> Played
+        ensures { λ r. ⌜ r ≡ spec.renderSnare self row (now (out .entry)) ⌝ }
+    {
+        let a = self.snare.render(
+            row.noise,
+            row.trigger,
+            row.w1,
+            row.w2,
+            row.w3,
+            row.w4,
+            row.w5,
+            out,
+        );
+        let voice = a.voice;
+        let answer = a.answer;
+        let refusal = answer.number();
+        let samples = samples_digest(refusal, out);
+        self.with_snare(voice, refusal, a.noise, samples)
+    }
+
+    // The voices after a call of the AnalogSnareDrum, and what the call is told.
+    fn with_snare(
+        mut self,
+        voice: AnalogSnareDrum,
+        refusal: u32,
+        noise: u32,
+        samples: u32,
+    ) -> Played
+        ensures { λ r. ⌜ r ≡ spec.withSnare self voice refusal noise samples ⌝ }
+    {
+        self.snare = voice;
+        let reply = Reply {
+            refusal,
+            noise,
+            samples,
+            state: state::snare(voice),
+        };
+        Played {
+            voices: self,
+            reply,
+        }
+    }
+
+    fn play_synthetic_snare(self, row: Row, out: &mut [f32]) -> Played
+        ensures { λ r. ⌜ r ≡ spec.playSyntheticSnare self row (now (out .entry)) ⌝ }
+    {
+        let call = row.call;
+        match call {
+            Call::Zero => self.with_synthetic_snare(zero::synthetic_snare(), 0, row.noise, START),
+            Call::Init => {
+                let a = self.synthetic_snare.init(row.w1);
+                let voice = a.voice;
+                let answer = a.answer;
+                self.with_synthetic_snare(voice, answer.number(), row.noise, START)
             }
-            Voice::Hihat => {
-                let p = hihat(self.hihat, row, out);
-                let next = p.voice;
-                self.hihat = next;
-                let reply = p.reply;
-                Played {
-                    voices: self,
-                    reply,
-                }
+            Call::Render => self.render_synthetic_snare(row, out),
+        }
+    }
+
+    fn render_synthetic_snare(self, row: Row, out: &mut [f32]) -> Played
+        ensures { λ r. ⌜ r ≡ spec.renderSyntheticSnare self row (now (out .entry)) ⌝ }
+    {
+        let a = self.synthetic_snare.render(
+            row.noise,
+            row.sustain,
+            row.trigger,
+            row.w1,
+            row.w2,
+            row.w3,
+            row.w4,
+            row.w5,
+            out,
+        );
+        let voice = a.voice;
+        let answer = a.answer;
+        let refusal = answer.number();
+        let samples = samples_digest(refusal, out);
+        self.with_synthetic_snare(voice, refusal, a.noise, samples)
+    }
+
+    // The voices after a call of the SyntheticSnareDrum, and what the call is told.
+    fn with_synthetic_snare(
+        mut self,
+        voice: SyntheticSnareDrum,
+        refusal: u32,
+        noise: u32,
+        samples: u32,
+    ) -> Played
+        ensures { λ r. ⌜ r ≡ spec.withSyntheticSnare self voice refusal noise samples ⌝ }
+    {
+        self.synthetic_snare = voice;
+        let reply = Reply {
+            refusal,
+            noise,
+            samples,
+            state: state::synthetic_snare(voice),
+        };
+        Played {
+            voices: self,
+            reply,
+        }
+    }
+
+    fn play_hihat(self, row: Row, out: &mut [f32]) -> Played
+        ensures { λ r. ⌜ r ≡ spec.playHihat self row (now (out .entry)) ⌝ }
+    {
+        let call = row.call;
+        match call {
+            Call::Zero => self.with_hihat(zero::hihat(), 0, row.noise, START),
+            Call::Init => {
+                let a = self.hihat.init(row.w1);
+                let voice = a.voice;
+                let answer = a.answer;
+                self.with_hihat(voice, answer.number(), row.noise, START)
             }
+            Call::Render => self.render_hihat(row, vca_type(row.linear), out),
+        }
+    }
+
+    fn render_hihat(self, row: Row, vca_type: VcaType, out: &mut [f32]) -> Played
+        ensures { λ r. ⌜ r ≡ spec.renderHihat self row «vca_type» (now (out .entry)) ⌝ }
+    {
+        let a = self.hihat.render(
+            row.noise,
+            row.sustain,
+            row.trigger,
+            row.w1,
+            row.w2,
+            row.w3,
+            row.w4,
+            row.w5,
+            out,
+            vca_type,
+            row.resonance,
+            row.two_stage_envelope,
+        );
+        let voice = a.voice;
+        let answer = a.answer;
+        let refusal = answer.number();
+        let samples = samples_digest(refusal, out);
+        self.with_hihat(voice, refusal, a.noise, samples)
+    }
+
+    // The voices after a call of the Hihat, and what the call is told.
+    fn with_hihat(mut self, voice: Hihat, refusal: u32, noise: u32, samples: u32) -> Played
+        ensures { λ r. ⌜ r ≡ spec.withHihat self voice refusal noise samples ⌝ }
+    {
+        self.hihat = voice;
+        let reply = Reply {
+            refusal,
+            noise,
+            samples,
+            state: state::hihat(voice),
+        };
+        Played {
+            voices: self,
+            reply,
         }
     }
 }

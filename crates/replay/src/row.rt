@@ -1,7 +1,7 @@
-// A row, read. Its fields stand at fixed places:
+// A row, read: each field stands at its place.
 //
 //     V K FF NNNNNNNN W1 W2 W3 W4 W5 W6 SSSSSSSS
-//     0 2 4  7        16 25 34 43 52 61 70       and the line end at 78
+//     0 2 4  7        16 25 34 43 52 61 70         and the line end at 78
 ghost use mathlib.Core.Path.{_≡_};
 ghost use mathlib.Core.Bool.{not};
 ghost use lib.Ieee.{binary32, ofBits, nanBits};
@@ -21,8 +21,7 @@ pub(crate) enum Call {
     Render,
 }
 
-// A call, with all that it may be given. The words of `init` are the rate and five that it does not read; those of `render` are accent, f0, a, decay, c and the
-// bass drum's self_fm_amount, with a and c as on a cue line.
+// A call, with all that it may be given.
 pub(crate) struct Row {
     pub voice: Voice,
     pub call: Call,

@@ -1,0 +1,37 @@
+-- `replay::play::Voices::render_snare` meets its contract. Assumes nothing.
+use mathlib.Core.Path.{ap₂, _∙_}
+use Rattle.replay.specs.Play.{samplesDigest, withSnare, renderSnare}
+use Rattle.replay.proofs.Refusals.{same-played}
+use borrow.Author.Needs.{needs}
+use Rattle.replay.proofs.play.Voices.render_snare.Statement.{statement}
+use Rattle.replay.proofs.play.Voices.render_snare.Tie as tie
+
+render-requires : tie.Need-render-requires
+render-requires c κs = search needs
+
+number-requires : tie.Need-number-requires
+number-requires c κs = search needs
+
+samples-digest-requires : tie.Need-samples-digest-requires
+samples-digest-requires c κs = search needs
+
+with-snare-requires : tie.Need-with-snare-requires
+with-snare-requires c κs = search needs
+
+same-length : tie.Need-same-length
+same-length c = search needs
+
+returns : tie.Need-returns
+unfolding renderSnare
+returns c = c .with-snare .ensures ∙ same-played (withSnare (c .before .before .before .before .before .before .before .before .before .before .args .self)) (c .before .before .before .before .before .before .before .render .ensures .1 .0) (c .before .before .before .number .ensures ∙ c .before .before .before .before .before .before .before .render .ensures .0) (c .before .before .before .before .before .before .before .render .ensures .1 .1 .0) (c .before .samples-digest .ensures ∙ ap₂ samplesDigest (c .before .before .before .number .ensures ∙ c .before .before .before .before .before .before .before .render .ensures .0) (c .before .before .before .before .before .before .before .render .ensures .1 .1 .1))
+
+pub render-snare-spec : {M : Type 1} → statement M
+render-snare-spec =
+    tie.close
+    (tie.spec
+    render-requires
+    number-requires
+    samples-digest-requires
+    with-snare-requires
+    same-length
+    returns)

@@ -132,7 +132,8 @@ renderHihat v row vcaType out =
     (Hihat.render (v .hihat) (row .noise) (row .sustain) (row .trigger) (row .w1) (row .w2) (row .w3) (row .w4) (row .w5) (length out) vcaType (row .resonance) (row .«two_stage_envelope»))
     refusal
     (Hihat.renderNoise (v .hihat) (row .noise) (row .sustain) (row .trigger) (row .w1) (row .w2) (row .w3) (row .w4) (row .w5) (length out) vcaType (row .resonance) (row .«two_stage_envelope»))
-    (samplesDigest refusal (Hihat.renderOut (v .hihat) (row .noise) (row .sustain) (row .trigger) (row .w1) (row .w2) (row .w3) (row .w4) (row .w5) out vcaType (row .resonance) (row .«two_stage_envelope»)))
+    (samplesDigest refusal
+    (Hihat.renderOut (v .hihat) (row .noise) (row .sustain) (row .trigger) (row .w1) (row .w2) (row .w3) (row .w4) (row .w5) out vcaType (row .resonance) (row .«two_stage_envelope»)))
 
 unfoldable pub callHihat : Call → Voices → Row → List Float → Played
 callHihat Zero v row out = withHihat v Zero.hihat 0 (row .noise) (digest [])

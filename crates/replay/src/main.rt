@@ -12,7 +12,7 @@
 //
 // The words of `init` are the rate and five that it does not read; those of `render` are accent, f0, a, decay, c and the bass drum's self_fm_amount (for the other
 // voices a word that they do not read), with a and c as on a cue line. Flags that a voice has no use for change nothing. Calls `n` and `i` render nothing, whatever
-// their N, and hand the noise state back. More than 4001 samples, flags above 1f, and a last line without its line end are malformed, as any other text that is no row:
+// their N, and hand the noise state back. An N above 00004001, flags above 1f and a last line without its line end are malformed, as any other text that is no row:
 // such a line gets `refused,8,K`, K its number from 1, and ends the run.
 mod digest; // digest.rt: digests of words and of samples
 mod play; // play.rt: a row answered by its voice

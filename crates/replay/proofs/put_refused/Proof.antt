@@ -22,7 +22,9 @@ same-length c = search needs
 
 returns : tie.Need-returns
 unfolding refused
-returns c = then (then (c .before .before .before .before .before .before .before .before .before .before .bytes .ensures) (c .before .before .before .before .before .before .decimal .ensures)) (c .before .before .byte .ensures)
+returns c =
+    let start = c .before .before .before .before .before .before .before .before .before .before .bytes .ensures in
+    then (then start (c .before .before .before .before .before .before .decimal .ensures)) (c .before .before .byte .ensures)
 
 pub put-refused-spec : {M : Type 1} → statement M
 put-refused-spec =

@@ -31,7 +31,13 @@ same-length c = search needs
 
 returns : tie.Need-returns
 unfolding answer
-returns c = then (then (then (then (then (c .before .before .before .before .before .before .before .before .before .before .before .before .before .before .before .before .before .before .before .before .before .before .before .byte .ensures) (c .before .before .before .before .before .before .before .before .before .before .before .before .before .before .before .before .before .before .decimal .ensures)) (c .before .before .before .before .before .before .before .before .before .before .before .before .before .before .byte2 .ensures)) (c .before .before .before .before .before .before .before .before .before .before .put-word .ensures)) (c .before .before .before .before .before .before .put-word2 .ensures)) (c .before .before .put-word3 .ensures)
+returns c =
+    let c₁ = c .before .before .before .before .before .before in
+    let c₂ = c₁ .before .before .before .before in
+    let c₃ = c₂ .before .before .before .before in
+    let c₄ = c₃ .before .before .before .before in
+    let refusal = then (then (c₄ .before .before .before .before .before .byte .ensures) (c₄ .decimal .ensures)) (c₃ .byte2 .ensures) in
+    then (then (then refusal (c₂ .put-word .ensures)) (c₁ .put-word2 .ensures)) (c .before .before .put-word3 .ensures)
 
 pub put-reply-spec : {M : Type 1} → statement M
 put-reply-spec =

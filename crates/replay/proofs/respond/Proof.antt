@@ -17,10 +17,18 @@ enum-known-row : tie.Need-enum-known-row
 enum-known-row c = search needs
 
 slice-relend-prefix-play : tie.Need-slice-relend-prefix-play
-slice-relend-prefix-play c = omega (arith, few-samples (now (c .before .before .before .before .before .before .before .args .line)) (c .before .row .given .0 .0) (sym (c .before .before .before .read .ensures) ∙ c .before .row .given .1))
+slice-relend-prefix-play c =
+    let read = c .before .before .before in
+    let known = sym (read .read .ensures) ∙ c .before .row .given .1 in
+    omega (arith, few-samples (now (read .before .before .before .before .args .line)) (c .before .row .given .0 .0) known)
 
 slice-aggregate-play : tie.Need-slice-aggregate-play
-slice-aggregate-play c = sym (length-take-le (c .before .before .row .given .0 .0 .samples) (now (c .before .before .before .before .before .before .before .before .args .samples)) (omega (arith, few-samples (now (c .before .before .before .before .before .before .before .before .args .line)) (c .before .before .row .given .0 .0) (sym (c .before .before .before .before .read .ensures) ∙ c .before .before .row .given .1))))
+slice-aggregate-play c =
+    let row = c .before .before .row .given in
+    let read = c .before .before .before .before in
+    let s = read .before .before .before .before in
+    let few = few-samples (now (s .args .line)) (row .0 .0) (sym (read .read .ensures) ∙ row .1) in
+    sym (length-take-le (row .0 .0 .samples) (now (s .args .samples)) (omega (arith, few)))
 
 play-requires : tie.Need-play-requires
 play-requires c κs = search needs
@@ -42,14 +50,20 @@ same-length-2 c = search needs
 
 returns : tie.Need-returns
 unfolding voices text goesOn
-returns c = rw (sym (c .before .before .before .before .before .before .before .before .before .before .before .before .before .read .ensures) ∙ c .before .before .before .before .before .before .before .before .before .before .before .row .given .1) (ap (λ (p : Played). p .voices) (c .before .before .before .before .before .before .before .before .play .ensures), (refl, rw (c .before .before .before .before .before .before .before .before .play .ensures) at (c .before .before .put-reply .ensures)))
+returns c =
+    let played = c .before .before .before .before .before .before .before .before .play .ensures in
+    let row = c .before .before .before .before .before .before .before .before .before .before .before in
+    let known = sym (row .before .before .read .ensures) ∙ row .row .given .1 in
+    rw known (ap (λ (p : Played). p .voices) played, (refl, rw played at (c .before .before .put-reply .ensures)))
 
 same-length-3 : tie.Need-same-length-3
 same-length-3 c = search needs
 
 returns-2 : tie.Need-returns-2
 unfolding voices text goesOn
-returns-2 c = rw (sym (c .before .before .before .before .before .before .read .ensures) ∙ c .before .before .before .before .enum-told .given .1) (refl, (refl, c .before .before .put-refused .ensures))
+returns-2 c =
+    let told = c .before .before .before .before in
+    rw (sym (told .before .before .read .ensures) ∙ told .enum-told .given .1) (refl, (refl, c .before .before .put-refused .ensures))
 
 pub respond-spec : {M : Type 1} → statement M
 respond-spec =

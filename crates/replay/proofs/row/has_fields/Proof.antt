@@ -28,7 +28,17 @@ has-words-requires : tie.Need-has-words-requires
 has-words-requires c κs = search needs
 
 returns : tie.Need-returns
-returns c = rw (c .has-words .ensures, c .before .is-at-most .ensures, c .before .before .flags .ensures, c .before .before .before .is-call .ensures, c .before .before .before .before .byte2 .ensures, c .before .before .before .before .before .is-voice .ensures, c .before .before .before .before .before .before .byte .ensures, c .before .before .before .before .before .before .before .is-parted .ensures)
+returns c =
+    rw (
+      c .has-words .ensures,
+      c .before .is-at-most .ensures,
+      c .before .before .flags .ensures,
+      c .before .before .before .is-call .ensures,
+      c .before .before .before .before .byte2 .ensures,
+      c .before .before .before .before .before .is-voice .ensures,
+      c .before .before .before .before .before .before .byte .ensures,
+      c .before .before .before .before .before .before .before .is-parted .ensures,
+    )
 
 pub has-fields-spec : {M : Type 1} → statement M
 has-fields-spec =

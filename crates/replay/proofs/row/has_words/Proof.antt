@@ -25,7 +25,16 @@ is-word-requires-7 : tie.Need-is-word-requires-7
 is-word-requires-7 c κs = search needs
 
 returns : tie.Need-returns
-returns c = rw (c .is-word7 .ensures, c .before .is-word6 .ensures, c .before .before .is-word5 .ensures, c .before .before .before .is-word4 .ensures, c .before .before .before .before .is-word3 .ensures, c .before .before .before .before .before .is-word2 .ensures, c .before .before .before .before .before .before .is-word .ensures)
+returns c =
+    rw (
+      c .is-word7 .ensures,
+      c .before .is-word6 .ensures,
+      c .before .before .is-word5 .ensures,
+      c .before .before .before .is-word4 .ensures,
+      c .before .before .before .before .is-word3 .ensures,
+      c .before .before .before .before .before .is-word2 .ensures,
+      c .before .before .before .before .before .before .is-word .ensures,
+    )
 
 pub has-words-spec : {M : Type 1} → statement M
 has-words-spec =

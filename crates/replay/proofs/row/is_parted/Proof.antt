@@ -37,7 +37,20 @@ byte-requires-11 : tie.Need-byte-requires-11
 byte-requires-11 c κs = search needs
 
 returns : tie.Need-returns
-returns c = rw (c .byte11 .ensures, c .before .byte10 .ensures, c .before .before .byte9 .ensures, c .before .before .before .byte8 .ensures, c .before .before .before .before .byte7 .ensures, c .before .before .before .before .before .byte6 .ensures, c .before .before .before .before .before .before .byte5 .ensures, c .before .before .before .before .before .before .before .byte4 .ensures, c .before .before .before .before .before .before .before .before .byte3 .ensures, c .before .before .before .before .before .before .before .before .before .byte2 .ensures, c .before .before .before .before .before .before .before .before .before .before .byte .ensures)
+returns c =
+    rw (
+      c .byte11 .ensures,
+      c .before .byte10 .ensures,
+      c .before .before .byte9 .ensures,
+      c .before .before .before .byte8 .ensures,
+      c .before .before .before .before .byte7 .ensures,
+      c .before .before .before .before .before .byte6 .ensures,
+      c .before .before .before .before .before .before .byte5 .ensures,
+      c .before .before .before .before .before .before .before .byte4 .ensures,
+      c .before .before .before .before .before .before .before .before .byte3 .ensures,
+      c .before .before .before .before .before .before .before .before .before .byte2 .ensures,
+      c .before .before .before .before .before .before .before .before .before .before .byte .ensures,
+    )
 
 pub is-parted-spec : {M : Type 1} → statement M
 is-parted-spec =

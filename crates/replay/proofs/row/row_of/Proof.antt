@@ -49,7 +49,23 @@ word-requires-2 : tie.Need-word-requires-2
 word-requires-2 c κs = search needs
 
 returns : tie.Need-returns
-returns c = rw (c .word2 .ensures, c .before .float6 .ensures, c .before .before .float5 .ensures, c .before .before .before .float4 .ensures, c .before .before .before .before .float3 .ensures, c .before .before .before .before .before .float2 .ensures, c .before .before .before .before .before .before .float .ensures, c .before .before .before .before .before .before .before .word .ensures, c .before .before .before .before .before .before .before .before .call-of .ensures, c .before .before .before .before .before .before .before .before .before .byte2 .ensures, c .before .before .before .before .before .before .before .before .before .before .voice-of .ensures, c .before .before .before .before .before .before .before .before .before .before .before .byte .ensures, c .before .before .before .before .before .before .before .before .before .before .before .before .value .ensures, c .before .before .before .before .before .before .before .before .before .before .before .before .before .flags .ensures)
+returns c =
+    rw (
+      c .word2 .ensures,
+      c .before .float6 .ensures,
+      c .before .before .float5 .ensures,
+      c .before .before .before .float4 .ensures,
+      c .before .before .before .before .float3 .ensures,
+      c .before .before .before .before .before .float2 .ensures,
+      c .before .before .before .before .before .before .float .ensures,
+      c .before .before .before .before .before .before .before .word .ensures,
+      c .before .before .before .before .before .before .before .before .call-of .ensures,
+      c .before .before .before .before .before .before .before .before .before .byte2 .ensures,
+      c .before .before .before .before .before .before .before .before .before .before .voice-of .ensures,
+      c .before .before .before .before .before .before .before .before .before .before .before .byte .ensures,
+      c .before .before .before .before .before .before .before .before .before .before .before .before .value .ensures,
+      c .before .before .before .before .before .before .before .before .before .before .before .before .before .flags .ensures,
+    )
 
 pub row-of-spec : {M : Type 1} → statement M
 row-of-spec =

@@ -49,7 +49,24 @@ float-requires-10 : tie.Need-float-requires-10
 float-requires-10 c κs = search needs
 
 returns : tie.Need-returns
-returns c = rw (c .float10 .ensures, c .before .float9 .ensures, c .before .before .float8 .ensures, c .before .before .before .word4 .ensures, c .before .before .before .before .word3 .ensures, c .before .before .before .before .before .svf .ensures, c .before .before .before .before .before .before .float7 .ensures, c .before .before .before .before .before .before .before .float6 .ensures, c .before .before .before .before .before .before .before .before .float5 .ensures, c .before .before .before .before .before .before .before .before .before .float4 .ensures, c .before .before .before .before .before .before .before .before .before .before .float3 .ensures, c .before .before .before .before .before .before .before .before .before .before .before .float2 .ensures, c .before .before .before .before .before .before .before .before .before .before .before .before .float .ensures, c .before .before .before .before .before .before .before .before .before .before .before .before .before .word2 .ensures, c .before .before .before .before .before .before .before .before .before .before .before .before .before .before .word .ensures)
+returns c =
+    rw (
+      c .float10 .ensures,
+      c .before .float9 .ensures,
+      c .before .before .float8 .ensures,
+      c .before .before .before .word4 .ensures,
+      c .before .before .before .before .word3 .ensures,
+      c .before .before .before .before .before .svf .ensures,
+      c .before .before .before .before .before .before .float7 .ensures,
+      c .before .before .before .before .before .before .before .float6 .ensures,
+      c .before .before .before .before .before .before .before .before .float5 .ensures,
+      c .before .before .before .before .before .before .before .before .before .float4 .ensures,
+      c .before .before .before .before .before .before .before .before .before .before .float3 .ensures,
+      c .before .before .before .before .before .before .before .before .before .before .before .float2 .ensures,
+      c .before .before .before .before .before .before .before .before .before .before .before .before .float .ensures,
+      c .before .before .before .before .before .before .before .before .before .before .before .before .before .word2 .ensures,
+      c .before .before .before .before .before .before .before .before .before .before .before .before .before .before .word .ensures,
+    )
 
 pub bass-spec : {M : Type 1} → statement M
 bass-spec =

@@ -28,7 +28,17 @@ svf-requires-2 : tie.Need-svf-requires-2
 svf-requires-2 c κs = search needs
 
 returns : tie.Need-returns
-returns c = rw (c .svf2 .ensures, c .before .svf .ensures, c .before .before .square-noise .ensures, c .before .before .before .float5 .ensures, c .before .before .before .before .float4 .ensures, c .before .before .before .before .before .float3 .ensures, c .before .before .before .before .before .before .float2 .ensures, c .before .before .before .before .before .before .before .float .ensures)
+returns c =
+    rw (
+      c .svf2 .ensures,
+      c .before .svf .ensures,
+      c .before .before .square-noise .ensures,
+      c .before .before .before .float5 .ensures,
+      c .before .before .before .before .float4 .ensures,
+      c .before .before .before .before .before .float3 .ensures,
+      c .before .before .before .before .before .before .float2 .ensures,
+      c .before .before .before .before .before .before .before .float .ensures,
+    )
 
 pub hihat-spec : {M : Type 1} → statement M
 hihat-spec =

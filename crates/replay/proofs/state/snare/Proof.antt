@@ -58,7 +58,22 @@ word-requires-3 : tie.Need-word-requires-3
 word-requires-3 c κs = search needs
 
 returns : tie.Need-returns
-returns c = rw (c .word3 .ensures, c .before .word2 .ensures, c .before .before .svf6 .ensures, c .before .before .before .svf5 .ensures, c .before .before .before .before .before .svf4 .ensures, c .before .before .before .before .before .before .before .svf3 .ensures, c .before .before .before .before .before .before .before .before .before .svf2 .ensures, c .before .before .before .before .before .before .before .before .before .before .before .svf .ensures, c .before .before .before .before .before .before .before .before .before .before .before .before .before .before .float4 .ensures, c .before .before .before .before .before .before .before .before .before .before .before .before .before .before .before .float3 .ensures, c .before .before .before .before .before .before .before .before .before .before .before .before .before .before .before .before .float2 .ensures, c .before .before .before .before .before .before .before .before .before .before .before .before .before .before .before .before .before .float .ensures, c .before .before .before .before .before .before .before .before .before .before .before .before .before .before .before .before .before .before .word .ensures)
+returns c =
+    rw (
+      c .word3 .ensures,
+      c .before .word2 .ensures,
+      c .before .before .svf6 .ensures,
+      c .before .before .before .svf5 .ensures,
+      c .before .before .before .before .before .svf4 .ensures,
+      c .before .before .before .before .before .before .before .svf3 .ensures,
+      c .before .before .before .before .before .before .before .before .before .svf2 .ensures,
+      c .before .before .before .before .before .before .before .before .before .before .before .svf .ensures,
+      c .before .before .before .before .before .before .before .before .before .before .before .before .before .before .float4 .ensures,
+      c .before .before .before .before .before .before .before .before .before .before .before .before .before .before .before .float3 .ensures,
+      c .before .before .before .before .before .before .before .before .before .before .before .before .before .before .before .before .float2 .ensures,
+      c .before .before .before .before .before .before .before .before .before .before .before .before .before .before .before .before .before .float .ensures,
+      c .before .before .before .before .before .before .before .before .before .before .before .before .before .before .before .before .before .before .word .ensures,
+    )
 
 pub snare-spec : {M : Type 1} → statement M
 snare-spec =

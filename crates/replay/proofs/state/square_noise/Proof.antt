@@ -40,7 +40,15 @@ word-requires-6 : tie.Need-word-requires-6
 word-requires-6 c κs = search needs
 
 returns : tie.Need-returns
-returns c = rw (c .word6 .ensures, c .before .word5 .ensures, c .before .before .word4 .ensures, c .before .before .before .word3 .ensures, c .before .before .before .before .word2 .ensures, c .before .before .before .before .before .word .ensures)
+returns c =
+    rw (
+      c .word6 .ensures,
+      c .before .word5 .ensures,
+      c .before .before .word4 .ensures,
+      c .before .before .before .word3 .ensures,
+      c .before .before .before .before .word2 .ensures,
+      c .before .before .before .before .before .word .ensures,
+    )
 
 pub square-noise-spec : {M : Type 1} → statement M
 square-noise-spec =

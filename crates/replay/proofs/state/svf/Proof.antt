@@ -19,7 +19,14 @@ float-requires-5 : tie.Need-float-requires-5
 float-requires-5 c κs = search needs
 
 returns : tie.Need-returns
-returns c = rw (c .float5 .ensures, c .before .float4 .ensures, c .before .before .float3 .ensures, c .before .before .before .float2 .ensures, c .before .before .before .before .float .ensures)
+returns c =
+    rw (
+      c .float5 .ensures,
+      c .before .float4 .ensures,
+      c .before .before .float3 .ensures,
+      c .before .before .before .float2 .ensures,
+      c .before .before .before .before .float .ensures,
+    )
 
 pub svf-spec : {M : Type 1} → statement M
 svf-spec =

@@ -43,7 +43,20 @@ svf-requires : tie.Need-svf-requires
 svf-requires c κs = search needs
 
 returns : tie.Need-returns
-returns c = rw (c .svf .ensures, c .before .one-pole2 .ensures, c .before .before .one-pole .ensures, c .before .before .before .word .ensures, c .before .before .before .before .float7 .ensures, c .before .before .before .before .before .float6 .ensures, c .before .before .before .before .before .before .float5 .ensures, c .before .before .before .before .before .before .before .float4 .ensures, c .before .before .before .before .before .before .before .before .float3 .ensures, c .before .before .before .before .before .before .before .before .before .float2 .ensures, c .before .before .before .before .before .before .before .before .before .before .float .ensures)
+returns c =
+    rw (
+      c .svf .ensures,
+      c .before .one-pole2 .ensures,
+      c .before .before .one-pole .ensures,
+      c .before .before .before .word .ensures,
+      c .before .before .before .before .float7 .ensures,
+      c .before .before .before .before .before .float6 .ensures,
+      c .before .before .before .before .before .before .float5 .ensures,
+      c .before .before .before .before .before .before .before .float4 .ensures,
+      c .before .before .before .before .before .before .before .before .float3 .ensures,
+      c .before .before .before .before .before .before .before .before .before .float2 .ensures,
+      c .before .before .before .before .before .before .before .before .before .before .float .ensures,
+    )
 
 pub synthetic-snare-spec : {M : Type 1} → statement M
 synthetic-snare-spec =

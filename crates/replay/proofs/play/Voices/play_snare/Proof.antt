@@ -37,7 +37,14 @@ returns c = rw (c .with-snare .ensures, c .before .snare .ensures, c .before .be
 
 returns-2 : tie.Need-returns-2
 unfolding callSnare
-returns-2 c = rw (c .with-snare2 .ensures, c .before .number .ensures, c .before .before .before .init .ensures .0, c .before .before .before .init .ensures .1, c .before .before .before .before .enum-told2 .given .1)
+returns-2 c =
+    rw (
+      c .with-snare2 .ensures,
+      c .before .number .ensures,
+      c .before .before .before .init .ensures .0,
+      c .before .before .before .init .ensures .1,
+      c .before .before .before .before .enum-told2 .given .1,
+    )
 
 same-length : tie.Need-same-length
 same-length c = search needs

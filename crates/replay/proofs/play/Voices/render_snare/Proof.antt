@@ -23,7 +23,11 @@ same-length c = search needs
 
 returns : tie.Need-returns
 unfolding renderSnare
-returns c = c .with-snare .ensures ∙ same-played (withSnare (c .before .before .before .before .before .before .before .before .before .before .args .self)) (c .before .before .before .before .before .before .before .render .ensures .1 .0) (c .before .before .before .number .ensures ∙ c .before .before .before .before .before .before .before .render .ensures .0) (c .before .before .before .before .before .before .before .render .ensures .1 .1 .0) (c .before .samples-digest .ensures ∙ ap₂ samplesDigest (c .before .before .before .number .ensures ∙ c .before .before .before .before .before .before .before .render .ensures .0) (c .before .before .before .before .before .before .before .render .ensures .1 .1 .1))
+returns c =
+    let r = c .before .before .before .before .before .before .before .render .ensures in
+    let refusal = c .before .before .before .number .ensures ∙ r .0 in
+    let samples = c .before .samples-digest .ensures ∙ ap₂ samplesDigest refusal (r .1 .1 .1) in
+    c .with-snare .ensures ∙ same-played (withSnare (c .before .before .before .before .before .before .before .before .before .before .args .self)) (r .1 .0) refusal (r .1 .1 .0) samples
 
 pub render-snare-spec : {M : Type 1} → statement M
 render-snare-spec =

@@ -6,7 +6,7 @@ use mathlib.Core.List.{List, [], _∷_}
 use lib.Dec.{ltb, leb, eqb}
 use lib.ListN.{length}
 use lib.Ieee.{Float, binary32, ofBits}
-use Rattle.refusal.specs.Refusal.{number, ask, unlessRefused, isFrequency, isUnit}
+use Rattle.refusal.specs.Refusal.{number, ask, unlessRefused, askKnobs}
 use Rattle.text.specs.Read.{ended, body, fields, field, decimal, pattern}
 use Rattle.text.specs.declared.read.Number.{Number}
 use Rattle.text.specs.declared.read.Number.the-variants.{Value, Invalid}
@@ -85,12 +85,7 @@ cueOf Hihat k = Cue.Hihat (float (k .accent)) (float (k .f0)) (float (k .a)) (fl
 -- ---- the questions, each with its number, in their order; 0 where all are passed
 
 unfoldable pub knobsRefusal : Patterns → ℕ
-knobsRefusal k =
-    ask (isFrequency (float (k .f0))) 3
-    (ask (isUnit (float (k .accent))) 4
-    (ask (isUnit (float (k .a))) 5
-    (ask (isUnit (float (k .decay))) 5
-    (ask (isUnit (float (k .c))) 5 0))))
+knobsRefusal k = askKnobs (float (k .f0)) (float (k .accent)) (float (k .a)) (float (k .decay)) (float (k .c)) 0
 
 -- the start is below the sheet's length, and not below the least start: 0 for the first cue, and one above the start before for the others
 unfoldable pub fieldsRefusal : ℕ → ℕ → CueFields → ℕ

@@ -9,7 +9,6 @@ use crate::part::Knobs;
 use crate::part::Playing;
 use crate::part::SnarePart;
 use crate::part::SyntheticSnarePart;
-use crate::zero;
 use cue_sheet::Cue;
 
 pub struct Kit {

@@ -2,7 +2,6 @@
 mod kit; // kit.rt: the four parts and the noise state
 mod mix; // mix.rt: silence, and blocks added sample by sample
 mod part; // part.rt: a voice with what it plays
-mod zero; // zero.rt: the voices with every field zero
 
 ghost use mathlib.Core.Path.{_≡_};
 ghost use mathlib.Core.List.{_++_};

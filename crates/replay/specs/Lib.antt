@@ -3,4 +3,3 @@ pub mod Play
 pub mod Response
 pub mod Row
 pub mod State
-pub mod Zero

@@ -17,7 +17,7 @@ use Rattle.hihat.specs.declared.VcaType.{VcaType}
 use Rattle.hihat.specs.declared.VcaType.the-variants.{Swing, Linear}
 use Rattle.replay.specs.Digest.{digest, patterns}
 use Rattle.replay.specs.State as State
-use Rattle.replay.specs.Zero as Zero
+use Rattle.zero.specs.Zero as Zero
 use Rattle.replay.specs.declared.play.Played.{Played}
 use Rattle.replay.specs.declared.play.Voices.{Voices}
 use Rattle.replay.specs.declared.row.Call.{Call}
@@ -33,6 +33,10 @@ samplesDigest refusal out = unlessRefused refusal (digest (patterns out)) (diges
 abbrev pub vcaType : Bool → VcaType
 vcaType true = Linear
 vcaType false = Swing
+
+-- every record zero
+unfoldable pub zero : Voices
+zero = record { bass = Zero.bass; snare = Zero.snare; «synthetic_snare» = Zero.syntheticSnare; hihat = Zero.hihat }
 
 -- ---- AnalogBassDrum
 

@@ -18,7 +18,6 @@ mod digest; // digest.rt: digests of words and of samples
 mod play; // play.rt: a row answered by its voice
 mod row; // row.rt: a row read
 mod state; // state.rt: the digests of the voices' states
-mod zero; // zero.rt: records with every field zero
 
 ghost use mathlib.Core.Path.{_≡_};
 ghost use mathlib.Core.List.{[], _∷_, _++_};

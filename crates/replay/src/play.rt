@@ -1,14 +1,12 @@
 // A row answered by its voice: the call that it asks for, and what the answer says of it.
 ghost use mathlib.Core.Path.{_≡_};
 ghost use Rattle.replay.specs.Play as spec;
-ghost use Rattle.replay.specs.Zero as Zero;
 use crate::digest;
 use crate::digest::START;
 use crate::row::Call;
 use crate::row::Row;
 use crate::row::Voice;
 use crate::state;
-use crate::zero;
 use analog_bass_drum::AnalogBassDrum;
 use analog_snare_drum::AnalogSnareDrum;
 use hihat::Hihat;
@@ -58,7 +56,7 @@ fn vca_type(linear: bool) -> VcaType
 
 impl Voices {
     pub(crate) fn zero() -> Self
-        ensures { λ r. ⌜ r ≡ Zero.voices ⌝ }
+        ensures { λ r. ⌜ r ≡ spec.zero ⌝ }
     {
         let bass = zero::bass();
         let snare = zero::snare();

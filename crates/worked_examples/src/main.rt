@@ -1,9 +1,5 @@
 // The examples at the edges that are run: each prints the number that a call answers, 0 where it is accepted. Those that are theorems are in proofs/Table.antt.
-use analog_bass_drum::AnalogBassDrum;
 use cue_sheet::Judgment;
-use filter::Svf;
-use hihat::Hihat;
-use hihat::SquareNoise;
 use hihat::VcaType;
 use libc::STDOUT_FILENO;
 use refusal::Answer;
@@ -15,71 +11,22 @@ fn print(example: &[u8], answer: Answer) {
     io::write_all(STDOUT_FILENO, b"\n");
 }
 
-fn zero_filter() -> Svf {
-    Svf {
-        g: 0.0,
-        r: 0.0,
-        h: 0.0,
-        state_1: 0.0,
-        state_2: 0.0,
-    }
-}
-
-fn zero_bass() -> AnalogBassDrum {
-    let resonator = zero_filter();
-    AnalogBassDrum {
-        pulse_remaining_samples: 0,
-        fm_pulse_remaining_samples: 0,
-        pulse: 0.0,
-        pulse_height: 0.0,
-        pulse_lp: 0.0,
-        fm_pulse_lp: 0.0,
-        retrig_pulse: 0.0,
-        lp_out: 0.0,
-        tone_lp: 0.0,
-        resonator,
-        trigger_pulse_duration: 0,
-        fm_pulse_duration: 0,
-        pulse_decay_time: 0.0,
-        pulse_filter_time: 0.0,
-        retrig_pulse_duration: 0.0,
-    }
-}
-
-fn zero_hihat() -> Hihat {
-    let noise_coloration_svf = zero_filter();
-    let hpf = zero_filter();
-    let square_noise = SquareNoise {
-        phase: [0, 0, 0, 0, 0, 0],
-    };
-    Hihat {
-        sample_rate: 0.0,
-        envelope: 0.0,
-        noise_clock: 0.0,
-        noise_sample: 0.0,
-        sustain_gain: 0.0,
-        square_noise,
-        noise_coloration_svf,
-        hpf,
-    }
-}
-
 // A bass struck at f0, over a block.
 fn struck(f0: f32, out: &mut [f32]) -> Answer {
-    let started = zero_bass().init(48000.0);
+    let started = zero::bass().init(48000.0);
     let voice = started.voice;
     let rendered = voice.render(true, 1.0, f0, 0.5, 0.5, 0.0, 0.0, out);
     rendered.answer
 }
 
 fn started(rate: f32) -> Answer {
-    let started = zero_bass().init(rate);
+    let started = zero::bass().init(rate);
     started.answer
 }
 
 // A hi-hat whose record holds no rate.
 fn struck_unstarted(f0: f32, out: &mut [f32]) -> Answer {
-    let rendered = zero_hihat().render(
+    let rendered = zero::hihat().render(
         33,
         false,
         true,

@@ -1,5 +1,6 @@
 -- `replay::play::Voices::zero` meets its contract. Assumes nothing.
 use borrow.Author.Needs.{needs}
+use Rattle.replay.specs.Play.{zero}
 use Rattle.replay.proofs.play.Voices.zero.Statement.{statement}
 use Rattle.replay.proofs.play.Voices.zero.Tie as tie
 
@@ -16,6 +17,7 @@ hihat-requires : tie.Need-hihat-requires
 hihat-requires c κs = search needs
 
 returns : tie.Need-returns
+unfolding zero
 returns c = rw (c .hihat .ensures, c .before .synthetic-snare .ensures, c .before .before .snare .ensures, c .before .before .before .bass .ensures)
 
 pub zero-spec : {M : Type 1} → statement M

@@ -1,9 +1,9 @@
--- `cue_render::zero::hihat` meets its contract. Assumes nothing.
+-- `zero::hihat` meets its contract. Assumes nothing.
 use borrow.Author.Needs.{needs}
 use lib.Ieee.{ofBits, round}
-use Rattle.cue_render.specs.Zero.{hihat}
-use Rattle.cue_render.proofs.zero.hihat.Statement.{statement}
-use Rattle.cue_render.proofs.zero.hihat.Tie as tie
+use Rattle.zero.specs.Zero.{hihat}
+use Rattle.zero.proofs.hihat.Statement.{statement}
+use Rattle.zero.proofs.hihat.Tie as tie
 
 svf-requires : tie.Need-svf-requires
 svf-requires c κs = search needs

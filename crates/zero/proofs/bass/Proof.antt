@@ -1,9 +1,9 @@
--- `cue_render::zero::bass` meets its contract. Assumes nothing.
+-- `zero::bass` meets its contract. Assumes nothing.
 use borrow.Author.Needs.{needs}
 use lib.Ieee.{ofBits, round}
-use Rattle.cue_render.specs.Zero.{bass}
-use Rattle.cue_render.proofs.zero.bass.Statement.{statement}
-use Rattle.cue_render.proofs.zero.bass.Tie as tie
+use Rattle.zero.specs.Zero.{bass}
+use Rattle.zero.proofs.bass.Statement.{statement}
+use Rattle.zero.proofs.bass.Tie as tie
 
 svf-requires : tie.Need-svf-requires
 svf-requires c κs = search needs

@@ -1,4 +1,4 @@
--- The voices with every field zero, as `init` takes them. Definitions only.
+-- Filters and voices with every field zero, as `init` takes them. Definitions only.
 use mathlib.Core.List.{[], _∷_}
 use Rattle.ieee754.specs.Single.{decimal}
 use Rattle.filter.specs.declared.OnePole.{OnePole}

@@ -1,9 +1,9 @@
--- `cue_render::zero::snare` meets its contract. Assumes nothing.
+-- `zero::snare` meets its contract. Assumes nothing.
 use borrow.Author.Needs.{needs}
 use lib.Ieee.{ofBits, round}
-use Rattle.cue_render.specs.Zero.{snare}
-use Rattle.cue_render.proofs.zero.snare.Statement.{statement}
-use Rattle.cue_render.proofs.zero.snare.Tie as tie
+use Rattle.zero.specs.Zero.{snare}
+use Rattle.zero.proofs.snare.Statement.{statement}
+use Rattle.zero.proofs.snare.Tie as tie
 
 svf-requires : tie.Need-svf-requires
 svf-requires c κs = search needs

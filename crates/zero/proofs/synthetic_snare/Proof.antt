@@ -1,9 +1,9 @@
--- `cue_render::zero::synthetic_snare` meets its contract. Assumes nothing.
+-- `zero::synthetic_snare` meets its contract. Assumes nothing.
 use borrow.Author.Needs.{needs}
 use lib.Ieee.{ofBits, round}
-use Rattle.cue_render.specs.Zero.{syntheticSnare}
-use Rattle.cue_render.proofs.zero.synthetic_snare.Statement.{statement}
-use Rattle.cue_render.proofs.zero.synthetic_snare.Tie as tie
+use Rattle.zero.specs.Zero.{syntheticSnare}
+use Rattle.zero.proofs.synthetic_snare.Statement.{statement}
+use Rattle.zero.proofs.synthetic_snare.Tie as tie
 
 one-pole-requires : tie.Need-one-pole-requires
 one-pole-requires c κs = search needs

@@ -1,6 +1,6 @@
-// Records with every field zero.
+// Filters and voices with every field zero, as `init` takes them.
 ghost use mathlib.Core.Path.{_≡_};
-ghost use Rattle.replay.specs.Zero as Zero;
+ghost use Rattle.zero.specs.Zero as spec;
 use analog_bass_drum::AnalogBassDrum;
 use analog_snare_drum::AnalogSnareDrum;
 use filter::OnePole;
@@ -9,18 +9,8 @@ use hihat::Hihat;
 use hihat::SquareNoise;
 use synthetic_snare_drum::SyntheticSnareDrum;
 
-fn one_pole() -> OnePole
-    ensures { λ r. ⌜ r ≡ Zero.onePole ⌝ }
-{
-    OnePole {
-        g: 0.0,
-        gi: 0.0,
-        state: 0.0,
-    }
-}
-
-fn svf() -> Svf
-    ensures { λ r. ⌜ r ≡ Zero.svf ⌝ }
+pub fn svf() -> Svf
+    ensures { λ r. ⌜ r ≡ spec.svf ⌝ }
 {
     Svf {
         g: 0.0,
@@ -31,9 +21,20 @@ fn svf() -> Svf
     }
 }
 
-pub(crate) fn bass() -> AnalogBassDrum
-    ensures { λ r. ⌜ r ≡ Zero.bass ⌝ }
+pub fn one_pole() -> OnePole
+    ensures { λ r. ⌜ r ≡ spec.onePole ⌝ }
 {
+    OnePole {
+        g: 0.0,
+        gi: 0.0,
+        state: 0.0,
+    }
+}
+
+pub fn bass() -> AnalogBassDrum
+    ensures { λ r. ⌜ r ≡ spec.bass ⌝ }
+{
+    let resonator = svf();
     AnalogBassDrum {
         pulse_remaining_samples: 0,
         fm_pulse_remaining_samples: 0,
@@ -44,7 +45,7 @@ pub(crate) fn bass() -> AnalogBassDrum
         retrig_pulse: 0.0,
         lp_out: 0.0,
         tone_lp: 0.0,
-        resonator: svf(),
+        resonator,
         trigger_pulse_duration: 0,
         fm_pulse_duration: 0,
         pulse_decay_time: 0.0,
@@ -53,8 +54,8 @@ pub(crate) fn bass() -> AnalogBassDrum
     }
 }
 
-pub(crate) fn snare() -> AnalogSnareDrum
-    ensures { λ r. ⌜ r ≡ Zero.snare ⌝ }
+pub fn snare() -> AnalogSnareDrum
+    ensures { λ r. ⌜ r ≡ spec.snare ⌝ }
 {
     let filter = svf();
     AnalogSnareDrum {
@@ -70,9 +71,11 @@ pub(crate) fn snare() -> AnalogSnareDrum
     }
 }
 
-pub(crate) fn synthetic_snare() -> SyntheticSnareDrum
-    ensures { λ r. ⌜ r ≡ Zero.syntheticSnare ⌝ }
+pub fn synthetic_snare() -> SyntheticSnareDrum
+    ensures { λ r. ⌜ r ≡ spec.syntheticSnare ⌝ }
 {
+    let pole = one_pole();
+    let snare_lp = svf();
     SyntheticSnareDrum {
         sample_rate_hz: 0.0,
         phase: [0.0, 0.0],
@@ -81,15 +84,16 @@ pub(crate) fn synthetic_snare() -> SyntheticSnareDrum
         fm: 0.0,
         sustain_gain: 0.0,
         hold_counter: 0,
-        drum_lp: one_pole(),
-        snare_hp: one_pole(),
-        snare_lp: svf(),
+        drum_lp: pole,
+        snare_hp: pole,
+        snare_lp,
     }
 }
 
-pub(crate) fn hihat() -> Hihat
-    ensures { λ r. ⌜ r ≡ Zero.hihat ⌝ }
+pub fn hihat() -> Hihat
+    ensures { λ r. ⌜ r ≡ spec.hihat ⌝ }
 {
+    let filter = svf();
     Hihat {
         sample_rate: 0.0,
         envelope: 0.0,
@@ -99,7 +103,7 @@ pub(crate) fn hihat() -> Hihat
         square_noise: SquareNoise {
             phase: [0, 0, 0, 0, 0, 0],
         },
-        noise_coloration_svf: svf(),
-        hpf: svf(),
+        noise_coloration_svf: filter,
+        hpf: filter,
     }
 }

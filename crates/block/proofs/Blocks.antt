@@ -1,5 +1,5 @@
 -- Laws of blocks: the invariant of a loop that fills a buffer, a block of a + b samples, and stages in one pass. Assumes nothing.
-use Prim.Native.Nat.{ℕ, zero, suc, _+_, _-_, _≤_, _<_}
+use Prim.Native.Nat.{ℕ, zero, suc, _+_, _≤_, _<_}
 use native.Mathlib.Omega.{arith}
 use native.Mathlib.Nat.{zero-add, suc-add}
 use native.Mathlib.Numerals.{add-one}
@@ -8,7 +8,7 @@ use mathlib.Core.List.{List, [], _∷_, _++_, append-nil}
 use lib.ListN.{length, getD, take, drop, set, length-set, drop-of-length-le, take-append-drop}
 use lib.Seq.{take-suc-set, append-snoc, drop-cons, drop-set-lt, drop-length, drop-drop}
 use lib.Ieee.{Float, nan}
-use Rattle.block.specs.Block.{Turn, samples, after, scan, scanned, source, Both, then, into}
+use Rattle.block.specs.Block.{Turn, samples, after, scan, scanned, source, then, into}
 
 -- ---- the loop of a stage: `while i < n { .. xs[i] .. out[i] = sample; i += 1; }`
 

@@ -3,7 +3,7 @@ use mathlib.Core.Path.{_≡_}
 use mathlib.Core.List.{List}
 use Prim.Native.Nat.{ℕ, _+_, _≤_, _<_, min}
 use native.Mathlib.Omega.{arith}
-use lib.ListN.{length, getD, take, set, length-take}
+use lib.ListN.{length, getD, set, length-take}
 use lib.Seq.{getD-take}
 use lib.Ieee.{Float, nan}
 use Rattle.block.proofs.Blocks.{Going, begin, turn, end}

@@ -3,14 +3,13 @@ use mathlib.Core.Path.{_≡_, sym, _∙_, ap}
 use mathlib.Core.List.{List}
 use Prim.Native.Nat.{ℕ}
 use lib.Ieee.{Float}
-use Rattle.block.specs.Block.{samples, after, scan, scanned, then}
+use Rattle.block.specs.Block.{samples, after}
 use Rattle.block.proofs.Blocks.{scan-then, scanned-then, samples-into, after-into}
 use Rattle.filter.specs.Svf as Svf
-use Rattle.filter.specs.declared.FilterMode.the-variants.{BandPass, HighPass}
 use Rattle.hihat.specs.declared.chain.Chain.{Chain}
 use Rattle.hihat.specs.declared.chain.Settings.{Settings}
 use Rattle.hihat.specs.SquareNoise as SquareNoise
-use Rattle.hihat.specs.Chain.{clocked, amplified, filtered, passed, states, onePass, States}
+use Rattle.hihat.specs.Chain.{filtered, passed, states, onePass, States}
 
 module _ (b : Settings) (n : ℕ) (c : Chain) where
   pub one-pass-samples : filtered b n c ≡ samples (onePass b) n (states c)

@@ -1,6 +1,6 @@
 -- drums/hihat.rs: the five passes of `Hihat::render` over the block, and the same five in one pass. Definitions only.
 use Prim.Native.Nat.{ℕ}
-use mathlib.Core.Bool.{Bool, cond, not, _||_}
+use mathlib.Core.Bool.{cond, not, _||_}
 use mathlib.Core.List.{List}
 use lib.Ieee.{Float, le, lt}
 use Rattle.ieee754.specs.Single.{_⊕_, _⊖_, _⊗_, _⊘_, decimal}

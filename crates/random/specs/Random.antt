@@ -1,7 +1,7 @@
 -- utils/random.rs. Definitions only.
 use Prim.Native.Nat.{ℕ, _+_, _*_, _%_, _^_}
 use lib.IntN.{pos}
-use lib.Ieee.{Float, binary32, ofInt}
+use lib.Ieee.{binary32, ofInt}
 use Rattle.ieee754.specs.Single.{_⊘_, decimal}
 use Rattle.random.specs.declared.Draw.{Draw}
 

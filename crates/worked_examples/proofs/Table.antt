@@ -1,13 +1,12 @@
 -- Examples at the edges, each computed from the definitions that the contracts cite. Assumes nothing.
 use mathlib.Core.Path.{_≡_, refl}
-use mathlib.Core.Bool.{true, false}
-use mathlib.Core.List.{List, [], _∷_}
+use mathlib.Core.List.{List}
 use Prim.Native.Nat.{ℕ, zero, suc}
 use lib.IntN.{pos}
 use lib.ListN.{getD}
-use lib.Ieee.{Float, nan, fin, binary32, ofBits, toBits, ofInt, round, add, sub, mul, div, neg, le, lt, isNan, toUnsigned}
+use lib.Ieee.{Float, nan, binary32, ofBits, toBits, ofInt, round, add, sub, mul, div, neg, le, lt, isNan, toUnsigned}
 use Rattle.ieee754.specs.Single.{_⊘_, _⊖_, decimal}
-use Rattle.ieee754.specs.Operations.{isSignMinus, precedes, minimumNumber}
+use Rattle.ieee754.specs.Operations.{minimumNumber}
 use Rattle.ieee754.specs.Root.{sqrt}
 use Rattle.random.specs.Random.{getWord, getFloat}
 use Rattle.units.specs.Tables.{«LUT_PITCH_RATIO_HIGH», «LUT_PITCH_RATIO_LOW»}

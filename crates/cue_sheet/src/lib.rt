@@ -1,7 +1,6 @@
 // A cue sheet: its lines read, and the questions that a sheet must pass. Nothing is stored: whoever renders a sheet reads its lines again.
 ghost use mathlib.Core.Path.{_≡_};
-ghost use mathlib.Core.Bool.{not};
-ghost use lib.Ieee.{binary32, ofBits, nanBits};
+ghost use lib.Ieee.{binary32, ofBits};
 ghost use Rattle.refusal.specs.Refusal.{answerNumber, isFrequency, isUnit};
 ghost use Rattle.text.specs.Read as Read;
 ghost use Rattle.cue_sheet.specs.CueLine as CueLine;
@@ -96,18 +95,11 @@ enum Fields {
     Malformed,
 }
 
-// Is a pattern that of a number, an infinity included?
-fn is_number(bits: u32) -> bool
-    ensures { λ r. ⌜ r ≡ not (nanBits binary32 bits) ⌝ }
-{
-    bits % 0x8000_0000 <= 0x7f80_0000
-}
-
 // A not-a-number passes no question, so its float is not made.
 fn is_frequency(bits: u32) -> bool
     ensures { λ r. ⌜ r ≡ isFrequency (ofBits binary32 bits) ⌝ }
 {
-    if is_number(bits) {
+    if ieee754::is_number(bits) {
         refusal::is_frequency(f32::from_bits(bits))
     } else {
         false
@@ -117,7 +109,7 @@ fn is_frequency(bits: u32) -> bool
 fn is_unit(bits: u32) -> bool
     ensures { λ r. ⌜ r ≡ isUnit (ofBits binary32 bits) ⌝ }
 {
-    if is_number(bits) {
+    if ieee754::is_number(bits) {
         refusal::is_unit(f32::from_bits(bits))
     } else {
         false

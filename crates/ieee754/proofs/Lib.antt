@@ -2,6 +2,7 @@
 pub mod Bounds
 pub mod Fields
 mod Formats
+pub mod NotANumber
 mod Numbers
 mod Units
 pub mod Whole

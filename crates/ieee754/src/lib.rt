@@ -14,4 +14,7 @@ pub use operations::abs;
 pub use operations::clamp;
 pub use operations::maximum_number;
 pub use operations::minimum_number;
+pub use pattern::from_bits;
+pub use pattern::is_number;
+pub use pattern::to_bits;
 pub use root::sqrt;

@@ -1,10 +1,37 @@
 // The bit pattern of an `f32`: the sign, the exponent's field of 8 digits, and the 23 digits below
 // the significand's leading one.
 ghost use mathlib.Core.Path.{_≡_};
-ghost use mathlib.Core.Bool.{false};
+ghost use mathlib.Core.Bool.{false, not};
 ghost use Prim.Native.Nat.{_+_, _%_, _^_, _≤_};
 ghost use lib.Ieee as Ieee;
 ghost use lib.Ieee.{binary32};
+
+// Is a pattern that of a number, an infinity included?
+pub fn is_number(bits: u32) -> bool
+    ensures { λ r. ⌜ r ≡ not (Ieee.nanBits binary32 bits) ⌝ }
+{
+    bits % 0x8000_0000 <= 0x7f80_0000
+}
+
+// The float of a pattern. That of a not-a-number is some not-a-number.
+pub fn from_bits(bits: u32) -> f32
+    ensures { λ r. ⌜ r ≡ Ieee.ofBits binary32 bits ⌝ }
+{
+    if is_number(bits) {
+        return f32::from_bits(bits);
+    }
+    0.0 / 0.0
+}
+
+// The pattern of a float, and 7fc00000 for every not-a-number.
+pub fn to_bits(x: f32) -> u32
+    ensures { λ r. ⌜ r ≡ Ieee.toBits binary32 x ⌝ }
+{
+    if x != x {
+        return 0x7fc0_0000;
+    }
+    f32::to_bits(x)
+}
 
 // The significand of a pattern whose exponent's field is not 0: its digits under the leading one.
 pub(crate) fn significand(bits: u32) -> u32

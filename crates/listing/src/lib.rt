@@ -13,16 +13,6 @@ ghost use Rattle.listing.specs.Cues as Cues;
 ghost use Rattle.listing.specs.Draws as Draws;
 ghost use Rattle.listing.specs.Refused as Refused;
 
-// The pattern of x, and 7fc00000 for every not-a-number.
-fn pattern_of(x: f32) -> u32
-    ensures { λ r. ⌜ r ≡ toBits binary32 x ⌝ }
-{
-    if x != x {
-        return 0x7fc0_0000;
-    }
-    f32::to_bits(x)
-}
-
 // A number and the byte after it.
 fn put_number(out: &mut [u8], at: usize, n: u64, after: u8) -> usize
     ensures { λ r. ⌜ Written (now (out .entry)) at (Write.decimal n ++ after ∷ []) r (now (out .exit)) ⌝ }
@@ -35,7 +25,7 @@ fn put_number(out: &mut [u8], at: usize, n: u64, after: u8) -> usize
 fn put_pattern(out: &mut [u8], at: usize, x: f32, after: u8) -> usize
     ensures { λ r. ⌜ Written (now (out .entry)) at (Write.pattern (toBits binary32 x) ++ after ∷ []) r (now (out .exit)) ⌝ }
 {
-    let end = text::write::pattern(out, at, pattern_of(x));
+    let end = text::write::pattern(out, at, ieee754::to_bits(x));
     text::write::byte(out, end, after)
 }
 

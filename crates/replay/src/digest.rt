@@ -11,20 +11,10 @@ pub(crate) fn word(h: u32, word: u32) -> u32
     (((h ^ word) as u64 * 16777619) % 4294967296) as u32
 }
 
-// The pattern of x, and 7fc00000 for every not-a-number.
-fn pattern_of(x: f32) -> u32
-    ensures { λ r. ⌜ r ≡ Digest.pattern x ⌝ }
-{
-    if x != x {
-        return 0x7fc0_0000;
-    }
-    f32::to_bits(x)
-}
-
 pub(crate) fn float(h: u32, x: f32) -> u32
     ensures { λ r. ⌜ r ≡ Digest.word h (Digest.pattern x) ⌝ }
 {
-    word(h, pattern_of(x))
+    word(h, ieee754::to_bits(x))
 }
 
 pub(crate) fn floats(h: u32, xs: &[f32]) -> u32

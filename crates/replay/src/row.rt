@@ -3,8 +3,6 @@
 //     V K FF NNNNNNNN W1 W2 W3 W4 W5 W6 SSSSSSSS
 //     0 2 4  7        16 25 34 43 52 61 70         and the line end at 78
 ghost use mathlib.Core.Path.{_≡_};
-ghost use mathlib.Core.Bool.{not};
-ghost use lib.Ieee.{binary32, ofBits, nanBits};
 ghost use Rattle.replay.specs.Row as spec;
 use text::read::Number;
 
@@ -187,27 +185,10 @@ fn is_well_formed(line: &[u8]) -> bool
     has_fields(line) & is_at_most(number(line, 7), 16385)
 }
 
-// Is a pattern that of a number, an infinity included?
-fn is_number(bits: u32) -> bool
-    ensures { λ r. ⌜ r ≡ not (nanBits binary32 bits) ⌝ }
-{
-    bits % 0x8000_0000 <= 0x7f80_0000
-}
-
-// The float of a pattern. That of a not-a-number is some not-a-number.
-fn float_of(bits: u32) -> f32
-    ensures { λ r. ⌜ r ≡ ofBits binary32 bits ⌝ }
-{
-    if is_number(bits) {
-        return f32::from_bits(bits);
-    }
-    0.0 / 0.0
-}
-
 fn float(line: &[u8], at: usize) -> f32
     ensures { λ r. ⌜ r ≡ spec.float (now (line .entry)) at ⌝ }
 {
-    float_of(word(line, at))
+    ieee754::from_bits(word(line, at))
 }
 
 fn row_of(line: &[u8]) -> Row

@@ -1,5 +1,6 @@
 -- `cue_sheet::is_frequency` meets its contract. Assumes nothing.
-use Rattle.cue_sheet.proofs.NotANumber.{made, nan-read, nan-frequency}
+use Rattle.ieee754.proofs.NotANumber.{made, nan-read}
+use Rattle.cue_sheet.proofs.NotANumber.{nan-frequency}
 use borrow.Author.Needs.{needs}
 use Rattle.cue_sheet.proofs.is_frequency.Statement.{statement}
 use Rattle.cue_sheet.proofs.is_frequency.Tie as tie

@@ -1,5 +1,6 @@
 -- `cue_sheet::is_unit` meets its contract. Assumes nothing.
-use Rattle.cue_sheet.proofs.NotANumber.{made, nan-read, nan-unit}
+use Rattle.ieee754.proofs.NotANumber.{made, nan-read}
+use Rattle.cue_sheet.proofs.NotANumber.{nan-unit}
 use borrow.Author.Needs.{needs}
 use Rattle.cue_sheet.proofs.is_unit.Statement.{statement}
 use Rattle.cue_sheet.proofs.is_unit.Tie as tie

@@ -4,8 +4,8 @@ use borrow.Author.Needs.{needs}
 use Rattle.listing.proofs.put_pattern.Statement.{statement}
 use Rattle.listing.proofs.put_pattern.Tie as tie
 
-pattern-of-requires : tie.Need-pattern-of-requires
-pattern-of-requires c κs = search needs
+to-bits-requires : tie.Need-to-bits-requires
+to-bits-requires c κs = search needs
 
 pattern-requires : tie.Need-pattern-requires
 pattern-requires c κs = search needs
@@ -18,9 +18,9 @@ same-length c = search needs
 
 returns : tie.Need-returns
 returns c =
-    let pattern = rw (c .before .before .before .before .before .before .before .pattern-of .ensures) at (c .before .before .before .before .before .before .pattern .ensures) in
+    let pattern = rw (c .before .before .before .before .before .before .before .to-bits .ensures) at (c .before .before .before .before .before .before .pattern .ensures) in
     then pattern (c .before .before .byte .ensures)
 
 pub put-pattern-spec : {M : Type 1} → statement M
 put-pattern-spec =
-    tie.close (tie.spec pattern-of-requires pattern-requires byte-requires same-length returns)
+    tie.close (tie.spec to-bits-requires pattern-requires byte-requires same-length returns)

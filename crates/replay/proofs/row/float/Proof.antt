@@ -6,11 +6,11 @@ use Rattle.replay.proofs.row.float.Tie as tie
 word-requires : tie.Need-word-requires
 word-requires c κs = search needs
 
-float-of-requires : tie.Need-float-of-requires
-float-of-requires c κs = search needs
+from-bits-requires : tie.Need-from-bits-requires
+from-bits-requires c κs = search needs
 
 returns : tie.Need-returns
-returns c = rw (c .float-of .ensures, c .before .word .ensures)
+returns c = rw (c .from-bits .ensures, c .before .word .ensures)
 
 pub float-spec : {M : Type 1} → statement M
-float-spec = tie.close (tie.spec word-requires float-of-requires returns)
+float-spec = tie.close (tie.spec word-requires from-bits-requires returns)

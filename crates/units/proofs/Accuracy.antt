@@ -1,7 +1,7 @@
 -- The contract of `semitones_to_ratio`, shown of any answer that equals the definition. Assumes nothing.
 use mathlib.Core.Path.{_≡_, refl, sym, ap, _∙_}
 use mathlib.Core.Bool.{Bool, true, false, cond}
-use Prim.Native.Nat.{ℕ, _+_, _*_, _<_}
+use Prim.Native.Nat.{ℕ, _+_, _*_, _%_}
 use native.Mathlib.Nat.{not-le-of-lt}
 use native.Mathlib.Omega.{arith}
 use lib.Dec.{T, eqb, ltb→lt, eqb→eq}
@@ -80,15 +80,8 @@ module _ (semitones : Float) where
   unfolding semitonesToRatio
   refused beyond = promised (Refused Pitch) (rw beyond)
 
-  -- i and j are the places that it reads
-  module _ (below : le (decimal 256 0) (pitchOf semitones) ≡ false) (i : ℕ) (i-is : i ≡ toUnsigned 64 (pitchOf semitones)) where
-    pub i-below : i < 256
-    i-below = rw i-is (pitch-places below .integral-below)
-
-    module _ (j : ℕ) (j-is : j ≡ toUnsigned 64 ((pitchOf semitones ⊖ ofInt binary32 (pos i)) ⊗ decimal 256 0)) where
-      pub j-below : j < 256
-      j-below = rw (j-is, i-is) (pitch-places below .step-below)
-
-      pub looked-up : Promised semitones (Of (getD «LUT_PITCH_RATIO_HIGH» i nan ⊗ getD «LUT_PITCH_RATIO_LOW» j nan))
-      unfolding semitonesToRatio ratio
-      looked-up = promised (Of (getD «LUT_PITCH_RATIO_HIGH» i nan ⊗ getD «LUT_PITCH_RATIO_LOW» j nan)) (rw (below, j-is, i-is))
+  pub looked-up : le (decimal 256 0) (pitchOf semitones) ≡ false → (ratio : Float)
+      → ratio ≡ getD «LUT_PITCH_RATIO_HIGH» (toUnsigned 64 (pitchOf semitones)) nan ⊗ getD «LUT_PITCH_RATIO_LOW» (toUnsigned 64 (pitchOf semitones ⊗ decimal 256 0) % 256) nan
+      → Promised semitones (Of ratio)
+  unfolding semitonesToRatio ratio
+  looked-up below ratio e = promised (Of ratio) (rw (below, e, pitch-places below .remainder))

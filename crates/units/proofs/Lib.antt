@@ -1,6 +1,7 @@
 mod Powers
 mod Rounding
 mod Table
+mod Lookup
 mod Entries
 mod Values
 mod Places

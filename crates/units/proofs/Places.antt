@@ -1,6 +1,6 @@
 -- The two places that a pitch p below 256 reads: i, which is p without its fraction, and j, which is 256 * (p - i) without its fraction.
 -- Both are below 256, so each table has an entry there. p - i and 256 * (p - i) are exact, so 256 * i + j is 256 * p without its fraction.
--- Where p has a minus sign or is a NaN, i and j are 0. Assumes nothing.
+-- Where p has a minus sign or is a NaN, i and j are 0. The code takes j from 256 * p at once, as its remainder by 256. Assumes nothing.
 use mathlib.Core.Path.{_≡_, refl, sym, ap, _∙_, subst}
 use mathlib.Core.Bool.{true, false, _&&_, true≢false}
 use Prim.Native.Nat.{ℕ, zero, suc, _+_, _-_, _*_, _/_, _%_, _^_, _≤_, _<_}
@@ -30,17 +30,23 @@ integral p = toUnsigned 64 p
 abbrev pub step : Float → ℕ
 step p = toUnsigned 64 ((p ⊖ ofInt binary32 (pos (integral p))) ⊗ decimal 256 0)
 
+-- 256 * p without its fraction
+abbrev place : Float → ℕ
+place p = toUnsigned 64 (p ⊗ decimal 256 0)
+
 pub record Places (p : Float) : Type 0 where
   pub integral-below : integral p < 256
   pub step-below : step p < 256
+  pub remainder : place p % 256 ≡ step p
   pub floored : T (le (decimal 0 0) p) → 256 * integral p + step p ≡ floor256 p
 
 -- ---- a minus sign, and a NaN
-zeros : (p : Float) → integral p ≡ 0 → step p ≡ 0 → (T (le (decimal 0 0) p) → 0 ≡ floor256 p) → Places p
-zeros p i j z =
+zeros : (p : Float) → integral p ≡ 0 → step p ≡ 0 → place p ≡ 0 → (T (le (decimal 0 0) p) → 0 ≡ floor256 p) → Places p
+zeros p i j n z =
     record {
       integral-below = rw i (lit< tt);
       step-below = rw j (lit< tt);
+      remainder = rw (j, n);
       floored = λ h. rw (j, i) (z h);
     }
 
@@ -51,6 +57,9 @@ minus-step : (p : Float) → isSignMinus p ≡ true → step p ≡ 0
 minus-step p h =
     rw (minus-integral p h)
     (sym (of-minus 64 ((p ⊖ ofInt binary32 (pos 0)) ⊗ decimal 256 0) (minus-times (p ⊖ ofInt binary32 (pos 0)) (minus-less p h))))
+
+minus-place : (p : Float) → isSignMinus p ≡ true → place p ≡ 0
+minus-place p h = sym (of-minus 64 (p ⊗ decimal 256 0) (minus-times p h))
 
 -- ---- m * 2 ^ e of single precision: m has at most 24 digits, and the denominator of 2 ^ e divides 2 ^ 149
 record Parts (m : ℕ) (e : ℤ) : Type 0 where
@@ -91,16 +100,24 @@ rest-le : (m : ℕ) (e : ℤ) → rest m e ≤ m
 rest-le m (pos k) = le-trans (le-of-eq (mod-one (m * 2 ^ k))) (omega arith)
 rest-le m (negsuc k) = le-trans (mod-le (m * 1) (2 ^ suc k)) (le-of-eq (mul-one m))
 
--- a value below 256 without its fraction
-cut : (x : Float) (a c : ℕ) → 0 < c → HasValue x false a c → a / c < 256 → toUnsigned 64 x ≡ a / c
+-- where 2 ^ e is not whole, up e is 1
+size-small : (m : ℕ) (e : ℤ) → m < 2 ^ 24 → m * up e < 256 * down e → m * up e < 2 ^ 24
+size-small m (pos k) d h = lt-of-lt-of-le h (lit≤ tt)
+size-small m (negsuc k) d h = rw mul-one d
+
+-- a value below 65536 without its fraction
+cut : (x : Float) (a c : ℕ) → 0 < c → HasValue x false a c → a / c < 65536 → toUnsigned 64 x ≡ a / c
 cut x a c C v h = unsigned-of-value 64 x a c C v ∙ min-eq-left (le-trans (le-of-lt h) (lit≤ tt))
+
+last : (w s : ℕ) → s < 256 → (256 * w + s) % 256 ≡ s
+last w s h = omega arith
 
 module _ (m : ℕ) (e : ℤ) (h : m * up e < 256 * down e) (t : T (fits binary32 (fin false m e))) where
   whole-below : whole m e < 256
   whole-below = div-lt-iff-lt-mul (down-pos e) .1 h
 
   integral-is : integral (fin false m e) ≡ whole m e
-  integral-is = cut (fin false m e) (m * up e) (down e) (down-pos e) (refl, refl) whole-below
+  integral-is = cut (fin false m e) (m * up e) (down e) (down-pos e) (refl, refl) (lt-of-lt-of-le whole-below (lit≤ tt))
 
   rest-small : rest m e < 2 ^ 24
   rest-small = lt-of-le-of-lt (rest-le m e) (parts m e t .digits)
@@ -130,12 +147,26 @@ module _ (m : ℕ) (e : ℤ) (h : m * up e < 256 * down e) (t : T (fits binary32
       div-lt-iff-lt-mul (down-pos e) .1 (lt-of-lt-of-le h (le-of-eq (mul-comm (down e) 256)))
 
   step-is : step (fin false m e) ≡ rest m e * 256 / down e
-  step-is = rw integral-is (cut ((fin false m e ⊖ ofInt binary32 (pos (whole m e))) ⊗ decimal 256 0) (rest m e * 256) (down e) (down-pos e) scaled rest-below)
+  step-is = rw integral-is (cut ((fin false m e ⊖ ofInt binary32 (pos (whole m e))) ⊗ decimal 256 0) (rest m e * 256) (down e) (down-pos e) scaled (lt-of-lt-of-le rest-below (lit≤ tt)))
 
   together : 256 * whole m e + rest m e * 256 / down e ≡ 256 * (m * up e) / down e
   together =
       sym (mul-add-div-right (down-pos e) (256 * whole m e) (rest m e * 256))
       ∙ ap (λ (z : ℕ). z / down e) (rw (mul-assoc 256 (whole m e) (down e), mul-comm (rest m e) 256, ← mul-add, div-add-mod' (m * up e) (down e)))
+
+  times : HasValue (fin false m e ⊗ decimal 256 0) false (m * up e * 256) (down e)
+  times =
+      let c = round-whole binary32 false 256 (lit≤ tt) in
+      let p = parts m e t in
+      rw (product binary32 (fin false m e) (decimal 256 0) (m * up e) (down e) 256 1 (down-pos e) (lit< tt) (refl, refl) c, mul-one)
+      (exact (m * up e) 8 (down e) (p .j) (down-pos e) (size-small m e (p .digits) h) (omega (arith, p .j-le)) (p .goes))
+
+  place-is : place (fin false m e) ≡ 256 * whole m e + rest m e * 256 / down e
+  place-is =
+      let parted = ap (λ (z : ℕ). z / down e) (mul-comm (m * up e) 256) ∙ sym together in
+      let low = rest-below in
+      let high = whole-below in
+      cut (fin false m e ⊗ decimal 256 0) (m * up e * 256) (down e) (down-pos e) times (rw parted (omega (arith, low, high))) ∙ parted
 
 -- ---- both places of any pitch below 256
 below : (m : ℕ) (e : ℤ) → le (decimal 256 0) (fin false m e) ≡ false → m * up e < 256 * down e
@@ -146,16 +177,17 @@ below m e h =
 
 pub places : (p : Float) → T (fits binary32 p) → le (decimal 256 0) p ≡ false → Places p
 unfolding le sub mul round toUnsigned isSignMinus
-places nan t h = zeros nan refl refl (λ z. absurd z)
-places (inf true) t h = zeros (inf true) (minus-integral (inf true) refl) (minus-step (inf true) refl) (λ z. absurd z)
+places nan t h = zeros nan refl refl refl (λ z. absurd z)
+places (inf true) t h = zeros (inf true) (minus-integral (inf true) refl) (minus-step (inf true) refl) (minus-place (inf true) refl) (λ z. absurd z)
 places (inf false) t h = absurd (true≢false h)
 places (fin true m e) t h =
-    zeros (fin true m e) (minus-integral (fin true m e) refl) (minus-step (fin true m e) refl)
+    zeros (fin true m e) (minus-integral (fin true m e) refl) (minus-step (fin true m e) refl) (minus-place (fin true m e) refl)
     (λ z. sym (ap (λ (k : ℕ). 256 * k / down e) (minus-zero m e z) ∙ zero-div (down e)))
 places (fin false m e) t h =
     let b = below m e h in
     record {
       integral-below = rw (integral-is m e b t) (whole-below m e b t);
       step-below = rw (step-is m e b t) (rest-below m e b t);
+      remainder = rw (step-is m e b t, place-is m e b t) (last (whole m e) (rest m e * 256 / down e) (rest-below m e b t));
       floored = λ _. rw (step-is m e b t, integral-is m e b t) (together m e b t);
     }

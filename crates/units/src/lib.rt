@@ -4,7 +4,7 @@ ghost use Rattle.units.specs.Units as spec;
 ghost use Rattle.units.specs.Accuracy.{Promised};
 use refusal::Refusal;
 
-mod tables; // tables.rt: LUT_PITCH_RATIO_HIGH and LUT_PITCH_RATIO_LOW
+mod tables; // tables.rt: LUT_PITCH_RATIO_HIGH and LUT_PITCH_RATIO_LOW, as functions
 
 // The ratio of a pitch, or the refusal of one that lies past the end of the tables.
 pub enum Ratio {
@@ -35,7 +35,7 @@ pub fn semitones_to_ratio(semitones: f32) -> Ratio
         return Ratio::Refused(Refusal::Pitch);
     }
     let pitch_integral = ieee754::truncate_usize(pitch);
-    let pitch_fractional = pitch - (pitch_integral as f32);
-    let step = ieee754::truncate_usize(pitch_fractional * 256.0);
-    Ratio::Of(tables::LUT_PITCH_RATIO_HIGH[pitch_integral] * tables::LUT_PITCH_RATIO_LOW[step])
+    // 256 * pitch is exact, so the Rust's step, 256 times the fraction of `pitch`, is its remainder
+    let step = ieee754::truncate_usize(pitch * 256.0) % 256;
+    Ratio::Of(tables::high(pitch_integral) * tables::low(step))
 }

@@ -1,0 +1,2 @@
+// The port for programs in other languages: numbers and slices in, numbers and filled slices out. It is what a Rust program links to compare and to measure the port.
+mod numbers; // numbers.rt: conversions and operations on f32, and ratios of pitches

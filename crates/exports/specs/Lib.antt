@@ -1,2 +1,3 @@
 pub mod Noise
 pub mod Sheet
+pub mod Voices

@@ -2,3 +2,4 @@
 mod noise; // noise.rt: draws of the noise generator
 mod numbers; // numbers.rt: conversions and operations on f32, and ratios of pitches
 mod sheet; // sheet.rt: cue sheets
+mod voices; // voices.rt: the four voices, block after block

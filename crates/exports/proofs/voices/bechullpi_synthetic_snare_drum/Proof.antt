@@ -1,0 +1,49 @@
+-- `exports::voices::bechullpi_synthetic_snare_drum` meets its contract. Assumes nothing.
+use borrow.Author.Needs.{needs}
+use mathlib.Core.Path.{sym, ap, _∙_}
+use Rattle.synthetic_snare_drum.specs.SyntheticSnareDrum.{init}
+use Rattle.exports.specs.Voices.{syntheticSnare}
+use Rattle.exports.proofs.Renders.{refused-init, accepted-init}
+use Rattle.exports.proofs.voices.bechullpi_synthetic_snare_drum.Statement.{statement}
+use Rattle.exports.proofs.voices.bechullpi_synthetic_snare_drum.Tie as tie
+
+synthetic-snare-requires : tie.Need-synthetic-snare-requires
+synthetic-snare-requires c κs = search needs
+
+init-requires : tie.Need-init-requires
+init-requires c κs = search needs
+
+number-requires : tie.Need-number-requires
+number-requires c κs = search needs
+
+returns : tie.Need-returns
+unfolding syntheticSnare
+returns c = refused-init _ _ _ _ _ _ _ (c .before .number .ensures ∙ c .before .before .init .ensures .0) (c .if1 .taken)
+
+synthetic-snare-blocks-requires : tie.Need-synthetic-snare-blocks-requires
+synthetic-snare-blocks-requires c κs = search needs
+
+same-length : tie.Need-same-length
+same-length c = search needs
+
+returns-2 : tie.Need-returns-2
+unfolding syntheticSnare
+returns-2 c =
+    let r = c .before .before in
+    let t = r .before .before in
+    let i = t .before .before in
+    let rate = i .before .before .before .args .sample-rate in
+    accepted-init _ _ _ _ _ _ (sym (t .before .number .ensures ∙ i .init .ensures .0) ∙ t .if1 .left) _
+    (i .init .ensures .1 ∙ ap (λ z. init z rate) (i .before .synthetic-snare .ensures)) _ _ (r .synthetic-snare-blocks .ensures)
+
+pub bechullpi-synthetic-snare-drum-spec : {M : Type 1} → statement M
+bechullpi-synthetic-snare-drum-spec =
+    tie.close
+    (tie.spec
+    synthetic-snare-requires
+    init-requires
+    number-requires
+    returns
+    synthetic-snare-blocks-requires
+    same-length
+    returns-2)

@@ -11,27 +11,28 @@ pub fn compare(program: &str, scripts: u32, seed: u64) -> u64 {
     for voice in ['b', 's', 'y', 'h'] {
         let mut r = Random::new(seed + voice as u64);
         let rows: Vec<Row> = (0..scripts).flat_map(|_| script(&mut r, voice, 16384)).collect();
-        let wrong = run(program, &rows);
-        let mut voices = Voices::default();
-        let refused = rows.iter().filter(|row| voices.play(row).refusal != 0).count();
-        let samples: u64 = rows.iter().filter(|row| row.kind == Kind::Render && row.samples <= 16384).map(|row| row.samples as u64).sum();
-        println!("replay {voice}: {} calls, {refused} of them refused, {samples} samples asked for: {wrong} differ", rows.len());
-        differ += wrong;
+        differ += run(program, voice, &rows);
     }
     differ
 }
 
 /// How many rows `program` answers otherwise than the published voices do.
-fn run(program: &str, rows: &[Row]) -> u64 {
+fn run(program: &str, voice: char, rows: &[Row]) -> u64 {
     let mut child = Command::new(program).stdin(Stdio::piped()).stdout(Stdio::piped()).spawn().expect("replay starts");
     let mut input = BufWriter::new(child.stdin.take().expect("its input"));
     let text: Vec<String> = rows.iter().map(|row| format!("{row}\n")).collect();
     let feeder = std::thread::spawn(move || text.iter().for_each(|line| input.write_all(line.as_bytes()).expect("a row is taken")));
     let mut voices = Voices::default();
     let mut lines = BufReader::new(child.stdout.take().expect("its output")).lines();
-    let mut differ = 0;
+    let (mut differ, mut refused, mut samples) = (0, 0, 0);
     for row in rows {
-        let want = voices.play(row).to_string();
+        let answer = voices.play(row);
+        match (answer.refusal, row.kind) {
+            (0, Kind::Render) => samples += u64::from(row.samples),
+            (0, _) => {}
+            _ => refused += 1,
+        }
+        let want = answer.to_string();
         let got = lines.next().map_or(String::new(), |line| line.expect("text"));
         if want != got {
             differ += 1;
@@ -42,7 +43,9 @@ fn run(program: &str, rows: &[Row]) -> u64 {
     }
     feeder.join().expect("all rows are written");
     child.wait().expect("replay ends");
-    differ + lines.count() as u64
+    differ += lines.count() as u64;
+    println!("replay {voice}: {} calls, {refused} of them refused, {samples} samples: {differ} differ", rows.len());
+    differ
 }
 
 /// The recorded calls, 450 a voice: rows into one file, the published voices' answers into the other.

@@ -17,9 +17,10 @@ struct Sheet {
     cues: Vec<Cue>,
 }
 
-struct Refused {
-    number: u32,
-    line: usize,
+#[derive(Debug)]
+pub struct Refused {
+    pub number: u32,
+    pub line: usize,
 }
 
 /// The text of `cues`. It reads at most 4,096 bytes.
@@ -27,10 +28,19 @@ pub fn text(input: &[u8]) -> String {
     match read(&input[..input.len().min(4096)]) {
         Err(refused) => format!("refused,{},{}\n", refused.number, refused.line),
         Ok(sheet) => {
-            let rows = render(&sheet).into_iter().enumerate();
+            let mut out = vec![0.0; sheet.length];
+            render(&sheet, &mut out);
+            let rows = out.into_iter().enumerate();
             "sample,bits\n".to_string() + &rows.map(|(i, x)| format!("{i},{:08x}\n", pattern(x))).collect::<String>()
         }
     }
+}
+
+/// A sheet into the first places of a buffer that has one for each sample.
+pub fn samples(input: &[u8], out: &mut [f32]) -> Result<(), Refused> {
+    let sheet = read(input)?;
+    render(&sheet, &mut out[..sheet.length]);
+    Ok(())
 }
 
 fn read(input: &[u8]) -> Result<Sheet, Refused> {
@@ -45,12 +55,12 @@ fn read(input: &[u8]) -> Result<Sheet, Refused> {
 }
 
 /// The fields of a line that has a line end.
-fn fields(line: &[u8]) -> Option<Vec<&[u8]>> {
+pub fn fields(line: &[u8]) -> Option<Vec<&[u8]>> {
     Some(line.strip_suffix(b"\n")?.split(|b| *b == b',').collect())
 }
 
 /// Digits with no zero in front, up to a limit.
-fn decimal(text: &[u8], limit: u64) -> Option<u32> {
+pub fn decimal(text: &[u8], limit: u64) -> Option<u32> {
     let digits = !text.is_empty() && text.iter().all(u8::is_ascii_digit) && (text.len() == 1 || text[0] != b'0');
     let value = std::str::from_utf8(text).ok()?.parse::<u64>().ok()?;
     (digits && value <= limit).then_some(value as u32)
@@ -96,11 +106,12 @@ fn cue(sheet: &Sheet, line: &[u8]) -> Result<Cue, u32> {
     }
 }
 
-fn render(sheet: &Sheet) -> Vec<f32> {
+fn render(sheet: &Sheet, out: &mut [f32]) {
     let mut voices = Voices::default();
     "bsyh".chars().for_each(|voice| voices.init(voice, sheet.rate as f32));
     let mut noise = 33;
-    let mut out = vec![0.0; sheet.length];
+    out.fill(0.0);
+    let mut scratch = vec![0.0; sheet.length];
     let mut latest: [Option<[f32; 5]>; 4] = [None; 4];
     let mut from = 0;
     let mut struck = ' ';
@@ -108,13 +119,13 @@ fn render(sheet: &Sheet) -> Vec<f32> {
         let to = sheet.cues.get(i).map_or(sheet.length, |cue| cue.start);
         for (voice, knobs) in "bsyh".chars().zip(latest) {
             if let Some([accent, f0, a, decay, c]) = knobs {
-                let mut block = vec![0.0; to - from];
+                let block = &mut scratch[..to - from];
                 let flags = RESONANCE | if voice == struck { TRIGGER } else { 0 };
                 let knobs = [accent, f0, a, decay, c, 0.0];
                 random::seed(noise);
-                voices.render(&Row { voice, kind: Kind::Render, flags, samples: 0, knobs, noise }, &mut block);
+                voices.render(&Row { voice, kind: Kind::Render, flags, samples: 0, knobs, noise }, block);
                 noise = noise_state();
-                out[from..to].iter_mut().zip(block).for_each(|(sum, x)| *sum += x);
+                out[from..to].iter_mut().zip(&*block).for_each(|(sum, x)| *sum += x);
             }
         }
         if let Some(cue) = sheet.cues.get(i) {
@@ -122,5 +133,4 @@ fn render(sheet: &Sheet) -> Vec<f32> {
             (struck, from) = (cue.voice, cue.start);
         }
     }
-    out
 }

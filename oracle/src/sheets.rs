@@ -24,10 +24,12 @@ pub fn compare(program: &str, count: u32, seed: u64) -> u64 {
     differ
 }
 
-/// The name of a sheet, and what `cues` must print for it.
-pub fn print(file: &str) {
-    let sheet = std::fs::read(file).expect("the sheet is there");
-    print!("{file}\n{}", text(&sheet));
+/// For each name in the file `names`, the name of the sheet and what `cues` must print for it.
+pub fn print(names: &str, folder: &str) {
+    for name in std::fs::read_to_string(names).expect("the names are there").lines() {
+        let sheet = std::fs::read(format!("{folder}/{name}")).expect("the sheet is there");
+        print!("{name}\n{}", text(&sheet));
+    }
 }
 
 /// What a program prints for an input. One that stops reading early may close its end first.
@@ -75,7 +77,7 @@ fn cue_line(r: &mut Random, start: u32) -> String {
 }
 
 /// One small fault: a byte changed, put in or taken out, the end cut off, or a line twice.
-fn damage(r: &mut Random, sheet: &mut Vec<u8>) {
+pub fn damage(r: &mut Random, sheet: &mut Vec<u8>) {
     let at = r.below(sheet.len() as u32) as usize;
     let byte = if r.one_in(2) { r.of(b"\n,0AFgb -+") } else { r.below(256) as u8 };
     match r.below(5) {

@@ -46,6 +46,8 @@ pub struct Voices {
     pub h: Hihat,
     y_rate: f32,
     h_rate: f32,
+    temp_1: Vec<f32>,
+    temp_2: Vec<f32>,
 }
 
 impl Voices {
@@ -122,8 +124,9 @@ impl Voices {
             's' => self.s.render(false, trigger, accent, f0, a, decay, c, out),
             'y' => self.y.render(sustain, trigger, accent, f0, a, decay, c, out),
             _ => {
-                let mut temp_1 = vec![0.0; out.len()];
-                let mut temp_2 = vec![0.0; out.len()];
+                let length = self.temp_1.len().max(out.len());
+                self.temp_1.resize(length, 0.0);
+                self.temp_2.resize(length, 0.0);
                 let vca = if row.flag(LINEAR) { VcaType::Linear } else { VcaType::Swing };
                 self.h.render(
                     sustain,
@@ -133,8 +136,8 @@ impl Voices {
                     a,
                     decay,
                     c,
-                    &mut temp_1,
-                    &mut temp_2,
+                    &mut self.temp_1[..out.len()],
+                    &mut self.temp_2[..out.len()],
                     out,
                     NoiseType::Square,
                     vca,

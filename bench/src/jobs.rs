@@ -1,0 +1,170 @@
+//! What is measured. A job gives a digest of its results, which is the same on both sides.
+use mi_plaits_dsp::drums::analog_bass_drum::AnalogBassDrum;
+use mi_plaits_dsp::drums::analog_snare_drum::AnalogSnareDrum;
+use mi_plaits_dsp::drums::hihat::{Hihat, NoiseType, VcaType};
+use mi_plaits_dsp::drums::synthetic_snare_drum::SyntheticSnareDrum;
+use mi_plaits_dsp::utils::{random, units};
+use oracle::calls::Random;
+use oracle::port;
+use oracle::sheet;
+use oracle::state::{digest, pattern};
+use std::hint::black_box;
+
+pub struct Job {
+    pub name: String,
+    /// samples or calls in one run
+    pub count: u64,
+    pub port: Box<dyn FnMut() -> u32>,
+    pub rust: Box<dyn FnMut() -> u32>,
+}
+
+const RATE: f32 = 48000.0;
+/// As many as the longest block has: a third of a second.
+const SAMPLES: usize = 16384;
+const NOISE: u32 = 33;
+const F0: f32 = 0.001;
+const ACCENT: f32 = 0.8;
+
+pub fn jobs() -> Vec<Job> {
+    let mut jobs = Vec::new();
+    for block in [64, 1024, 16384] {
+        jobs.push(voice("AnalogBassDrum", block, bass_port, bass_rust));
+        jobs.push(voice("AnalogSnareDrum", block, snare_port, snare_rust));
+        jobs.push(voice("SyntheticSnareDrum", block, synthetic_snare_port, synthetic_snare_rust));
+        jobs.push(voice("Hihat", block, hihat_port, hihat_rust));
+    }
+    jobs.extend([full_sheet(), ratios(), roots(), draws()]);
+    jobs
+}
+
+type Blocks = fn(u32, &mut [f32]);
+
+/// A voice from its init, struck at the first of the blocks that make up `SAMPLES`.
+fn voice(name: &str, block: usize, port: Blocks, rust: Blocks) -> Job {
+    let run = move |blocks: Blocks| {
+        let mut out = vec![0.0; block];
+        move || {
+            blocks((SAMPLES / block) as u32, black_box(&mut out));
+            bits(&out[..block.min(64)])
+        }
+    };
+    Job { name: format!("{name}, blocks of {block}"), count: SAMPLES as u64, port: Box::new(run(port)), rust: Box::new(run(rust)) }
+}
+
+fn bits(out: &[f32]) -> u32 {
+    digest(out.iter().map(|x| pattern(*x)))
+}
+
+fn bass_port(blocks: u32, out: &mut [f32]) {
+    port::analog_bass_drum(RATE, blocks, ACCENT, F0, 0.4, 0.6, 0.5, 0.3, out);
+}
+
+fn bass_rust(blocks: u32, out: &mut [f32]) {
+    let mut voice = AnalogBassDrum::new();
+    voice.init(RATE);
+    (0..blocks).for_each(|i| voice.render(false, i == 0, ACCENT, F0, 0.4, 0.6, 0.5, 0.3, out));
+}
+
+fn snare_port(blocks: u32, out: &mut [f32]) {
+    port::analog_snare_drum(NOISE, RATE, blocks, ACCENT, 0.004, 0.5, 0.6, 0.5, out);
+}
+
+fn snare_rust(blocks: u32, out: &mut [f32]) {
+    random::seed(NOISE);
+    let mut voice = AnalogSnareDrum::new();
+    voice.init(RATE);
+    (0..blocks).for_each(|i| voice.render(false, i == 0, ACCENT, 0.004, 0.5, 0.6, 0.5, out));
+}
+
+fn synthetic_snare_port(blocks: u32, out: &mut [f32]) {
+    port::synthetic_snare_drum(NOISE, RATE, blocks, ACCENT, 0.004, 0.5, 0.6, 0.5, out);
+}
+
+fn synthetic_snare_rust(blocks: u32, out: &mut [f32]) {
+    random::seed(NOISE);
+    let mut voice = SyntheticSnareDrum::new();
+    voice.init(RATE);
+    (0..blocks).for_each(|i| voice.render(false, i == 0, ACCENT, 0.004, 0.5, 0.6, 0.5, out));
+}
+
+fn hihat_port(blocks: u32, out: &mut [f32]) {
+    port::hihat(NOISE, RATE, blocks, ACCENT, 0.01, 0.6, 0.7, 0.5, out);
+}
+
+fn hihat_rust(blocks: u32, out: &mut [f32]) {
+    let (mut temp_1, mut temp_2) = ([0.0; SAMPLES], [0.0; SAMPLES]);
+    let (temp_1, temp_2) = (&mut temp_1[..out.len()], &mut temp_2[..out.len()]);
+    random::seed(NOISE);
+    let mut voice = Hihat::new();
+    voice.init(RATE);
+    for i in 0..blocks {
+        let (noise, vca) = (NoiseType::Square, VcaType::Swing);
+        voice.render(false, i == 0, ACCENT, 0.01, 0.6, 0.7, 0.5, temp_1, temp_2, out, noise, vca, true, false);
+    }
+}
+
+/// 64 cues, the voices in turn, read from its bytes and rendered.
+fn full_sheet() -> Job {
+    let mut text = format!("48000,{SAMPLES}\n");
+    for i in 0..64 {
+        let (voice, f0) = [('b', F0), ('s', 0.004), ('y', 0.004), ('h', 0.01)][i % 4];
+        let knobs = [ACCENT, f0, 0.5, 0.6, 0.5].map(|x: f32| format!(",{:08x}", x.to_bits())).concat();
+        text += &format!("{},{voice}{knobs}\n", i * SAMPLES / 64);
+    }
+    let (bytes, copy) = (text.clone().into_bytes(), text.into_bytes());
+    let (mut out, mut other) = (vec![0.0; SAMPLES], vec![0.0; SAMPLES]);
+    Job {
+        name: "sheet of 64 cues".to_string(),
+        count: SAMPLES as u64,
+        port: Box::new(move || port::sheet(black_box(&bytes), &mut out) + bits(&out[SAMPLES - 64..])),
+        rust: Box::new(move || {
+            sheet::samples(black_box(&copy), &mut other).expect("an accepted sheet");
+            bits(&other[SAMPLES - 64..])
+        }),
+    }
+}
+
+const CALLS: usize = 4096;
+
+/// A function called once for each input, through a pointer on both sides.
+fn calls(name: &str, inputs: Vec<f32>, port: extern "C" fn(f32) -> f32, rust: fn(f32) -> f32) -> Job {
+    let copy = inputs.clone();
+    Job {
+        name: name.to_string(),
+        count: CALLS as u64,
+        port: Box::new(move || inputs.iter().fold(0, |h, x| h ^ black_box(port)(*x).to_bits())),
+        rust: Box::new(move || copy.iter().fold(0, |h, x| h ^ black_box(rust)(*x).to_bits())),
+    }
+}
+
+fn ratios() -> Job {
+    let mut r = Random::new(1);
+    let pitches = (0..CALLS).map(|_| r.unit() * 254.0 - 127.0).collect();
+    extern "C" fn port(semitones: f32) -> f32 {
+        port::semitones_to_ratio(semitones, 0.0)
+    }
+    calls("semitones_to_ratio", pitches, port, units::semitones_to_ratio)
+}
+
+fn roots() -> Job {
+    let mut r = Random::new(1);
+    let inputs = (0..CALLS).map(|_| r.unit() * 4.0).collect();
+    extern "C" fn port(x: f32) -> f32 {
+        port::sqrt(x)
+    }
+    calls("sqrt", inputs, port, f32::sqrt)
+}
+
+fn draws() -> Job {
+    let (mut out, mut other) = (vec![0.0; CALLS], vec![0.0; CALLS]);
+    Job {
+        name: "get_float".to_string(),
+        count: CALLS as u64,
+        port: Box::new(move || port::get_float(NOISE, black_box(&mut out)) ^ bits(&out[CALLS - 64..])),
+        rust: Box::new(move || {
+            random::seed(NOISE);
+            black_box(&mut other).iter_mut().for_each(|place| *place = random::get_float());
+            oracle::voices::noise_state() ^ bits(&other[CALLS - 64..])
+        }),
+    }
+}

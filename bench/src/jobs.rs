@@ -18,33 +18,38 @@ pub struct Job {
     pub rust: Box<dyn FnMut() -> u32>,
 }
 
-const RATE: f32 = 48000.0;
 /// As many as the longest block has: a third of a second.
 const SAMPLES: usize = 16384;
 const NOISE: u32 = 33;
-const F0: f32 = 0.001;
-const ACCENT: f32 = 0.8;
+const RATE: f32 = 48000.0;
+
+/// accent, f0, a, decay, c as in a cue line, and the bass's self_fm_amount. No compiler sees them: neither side is made for these alone.
+type Knobs = [f32; 6];
+const BASS: Knobs = [0.8, 0.001, 0.4, 0.6, 0.5, 0.3];
+const SNARE: Knobs = [0.8, 0.004, 0.5, 0.6, 0.5, 0.0];
+const HIHAT: Knobs = [0.8, 0.01, 0.6, 0.7, 0.5, 0.0];
 
 pub fn jobs() -> Vec<Job> {
     let mut jobs = Vec::new();
     for block in [64, 1024, 16384] {
-        jobs.push(voice("AnalogBassDrum", block, bass_port, bass_rust));
-        jobs.push(voice("AnalogSnareDrum", block, snare_port, snare_rust));
-        jobs.push(voice("SyntheticSnareDrum", block, synthetic_snare_port, synthetic_snare_rust));
-        jobs.push(voice("Hihat", block, hihat_port, hihat_rust));
+        jobs.push(voice("AnalogBassDrum", block, BASS, bass_port, bass_rust));
+        jobs.push(voice("AnalogSnareDrum", block, SNARE, snare_port, snare_rust));
+        jobs.push(voice("SyntheticSnareDrum", block, SNARE, synthetic_snare_port, synthetic_snare_rust));
+        jobs.push(voice("Hihat", block, HIHAT, hihat_port, hihat_rust));
     }
     jobs.extend([full_sheet(), ratios(), roots(), draws()]);
     jobs
 }
 
-type Blocks = fn(u32, &mut [f32]);
+/// The rate, the knobs, the number of blocks, and the block.
+type Blocks = fn(f32, Knobs, u32, &mut [f32]);
 
 /// A voice from its init, struck at the first of the blocks that make up `SAMPLES`.
-fn voice(name: &str, block: usize, port: Blocks, rust: Blocks) -> Job {
+fn voice(name: &str, block: usize, knobs: Knobs, port: Blocks, rust: Blocks) -> Job {
     let run = move |blocks: Blocks| {
         let mut out = vec![0.0; block];
         move || {
-            blocks((SAMPLES / block) as u32, black_box(&mut out));
+            black_box(blocks)(black_box(RATE), black_box(knobs), (SAMPLES / block) as u32, &mut out);
             bits(&out[..block.min(64)])
         }
     };
@@ -55,51 +60,55 @@ fn bits(out: &[f32]) -> u32 {
     digest(out.iter().map(|x| pattern(*x)))
 }
 
-fn bass_port(blocks: u32, out: &mut [f32]) {
-    port::analog_bass_drum(RATE, blocks, ACCENT, F0, 0.4, 0.6, 0.5, 0.3, out);
+fn bass_port(rate: f32, [accent, f0, tone, decay, attack_fm, self_fm]: Knobs, blocks: u32, out: &mut [f32]) {
+    port::analog_bass_drum(rate, blocks, accent, f0, tone, decay, attack_fm, self_fm, out);
 }
 
-fn bass_rust(blocks: u32, out: &mut [f32]) {
+fn bass_rust(rate: f32, [accent, f0, tone, decay, attack_fm, self_fm]: Knobs, blocks: u32, out: &mut [f32]) {
+    let sustain = black_box(false);
     let mut voice = AnalogBassDrum::new();
-    voice.init(RATE);
-    (0..blocks).for_each(|i| voice.render(false, i == 0, ACCENT, F0, 0.4, 0.6, 0.5, 0.3, out));
+    voice.init(rate);
+    (0..blocks).for_each(|i| voice.render(sustain, i == 0, accent, f0, tone, decay, attack_fm, self_fm, out));
 }
 
-fn snare_port(blocks: u32, out: &mut [f32]) {
-    port::analog_snare_drum(NOISE, RATE, blocks, ACCENT, 0.004, 0.5, 0.6, 0.5, out);
+fn snare_port(rate: f32, [accent, f0, tone, decay, snappy, _]: Knobs, blocks: u32, out: &mut [f32]) {
+    port::analog_snare_drum(NOISE, rate, blocks, accent, f0, tone, decay, snappy, out);
 }
 
-fn snare_rust(blocks: u32, out: &mut [f32]) {
+fn snare_rust(rate: f32, [accent, f0, tone, decay, snappy, _]: Knobs, blocks: u32, out: &mut [f32]) {
+    let sustain = black_box(false);
     random::seed(NOISE);
     let mut voice = AnalogSnareDrum::new();
-    voice.init(RATE);
-    (0..blocks).for_each(|i| voice.render(false, i == 0, ACCENT, 0.004, 0.5, 0.6, 0.5, out));
+    voice.init(rate);
+    (0..blocks).for_each(|i| voice.render(sustain, i == 0, accent, f0, tone, decay, snappy, out));
 }
 
-fn synthetic_snare_port(blocks: u32, out: &mut [f32]) {
-    port::synthetic_snare_drum(NOISE, RATE, blocks, ACCENT, 0.004, 0.5, 0.6, 0.5, out);
+fn synthetic_snare_port(rate: f32, [accent, f0, fm_amount, decay, snappy, _]: Knobs, blocks: u32, out: &mut [f32]) {
+    port::synthetic_snare_drum(NOISE, rate, blocks, accent, f0, fm_amount, decay, snappy, out);
 }
 
-fn synthetic_snare_rust(blocks: u32, out: &mut [f32]) {
+fn synthetic_snare_rust(rate: f32, [accent, f0, fm_amount, decay, snappy, _]: Knobs, blocks: u32, out: &mut [f32]) {
+    let sustain = black_box(false);
     random::seed(NOISE);
     let mut voice = SyntheticSnareDrum::new();
-    voice.init(RATE);
-    (0..blocks).for_each(|i| voice.render(false, i == 0, ACCENT, 0.004, 0.5, 0.6, 0.5, out));
+    voice.init(rate);
+    (0..blocks).for_each(|i| voice.render(sustain, i == 0, accent, f0, fm_amount, decay, snappy, out));
 }
 
-fn hihat_port(blocks: u32, out: &mut [f32]) {
-    port::hihat(NOISE, RATE, blocks, ACCENT, 0.01, 0.6, 0.7, 0.5, out);
+fn hihat_port(rate: f32, [accent, f0, tone, decay, noisiness, _]: Knobs, blocks: u32, out: &mut [f32]) {
+    port::hihat(NOISE, rate, blocks, accent, f0, tone, decay, noisiness, out);
 }
 
-fn hihat_rust(blocks: u32, out: &mut [f32]) {
+fn hihat_rust(rate: f32, [accent, f0, tone, decay, noisiness, _]: Knobs, blocks: u32, out: &mut [f32]) {
+    let (sustain, resonance, two_stage) = black_box((false, true, false));
     let (mut temp_1, mut temp_2) = ([0.0; SAMPLES], [0.0; SAMPLES]);
     let (temp_1, temp_2) = (&mut temp_1[..out.len()], &mut temp_2[..out.len()]);
     random::seed(NOISE);
     let mut voice = Hihat::new();
-    voice.init(RATE);
+    voice.init(rate);
     for i in 0..blocks {
         let (noise, vca) = (NoiseType::Square, VcaType::Swing);
-        voice.render(false, i == 0, ACCENT, 0.01, 0.6, 0.7, 0.5, temp_1, temp_2, out, noise, vca, true, false);
+        voice.render(sustain, i == 0, accent, f0, tone, decay, noisiness, temp_1, temp_2, out, noise, vca, resonance, two_stage);
     }
 }
 
@@ -107,8 +116,8 @@ fn hihat_rust(blocks: u32, out: &mut [f32]) {
 fn full_sheet() -> Job {
     let mut text = format!("48000,{SAMPLES}\n");
     for i in 0..64 {
-        let (voice, f0) = [('b', F0), ('s', 0.004), ('y', 0.004), ('h', 0.01)][i % 4];
-        let knobs = [ACCENT, f0, 0.5, 0.6, 0.5].map(|x: f32| format!(",{:08x}", x.to_bits())).concat();
+        let (voice, knobs) = [('b', BASS), ('s', SNARE), ('y', SNARE), ('h', HIHAT)][i % 4];
+        let knobs: String = knobs[..5].iter().map(|x| format!(",{:08x}", x.to_bits())).collect();
         text += &format!("{},{voice}{knobs}\n", i * SAMPLES / 64);
     }
     let (bytes, copy) = (text.clone().into_bytes(), text.into_bytes());

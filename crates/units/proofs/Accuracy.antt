@@ -1,7 +1,7 @@
 -- The contract of `semitones_to_ratio`, shown of any answer that equals the definition. Assumes nothing.
 use mathlib.Core.Path.{_≡_, refl, sym, ap, _∙_}
 use mathlib.Core.Bool.{Bool, true, false, cond}
-use Prim.Native.Nat.{ℕ, _+_, _*_, _%_}
+use Prim.Native.Nat.{ℕ, _+_, _*_, _%_, _<_}
 use native.Mathlib.Nat.{not-le-of-lt}
 use native.Mathlib.Omega.{arith}
 use lib.Dec.{T, eqb, ltb→lt, eqb→eq}
@@ -79,6 +79,9 @@ module _ (semitones : Float) where
   pub refused : le (decimal 256 0) (pitchOf semitones) ≡ true → Promised semitones (Refused Pitch)
   unfolding semitonesToRatio
   refused beyond = promised (Refused Pitch) (rw beyond)
+
+  pub integral-small : le (decimal 256 0) (pitchOf semitones) ≡ false → (i : ℕ) → i ≡ toUnsigned 64 (pitchOf semitones) → i < 256
+  integral-small below i e = rw e (pitch-places below .integral-below)
 
   pub looked-up : le (decimal 256 0) (pitchOf semitones) ≡ false → (ratio : Float)
       → ratio ≡ getD «LUT_PITCH_RATIO_HIGH» (toUnsigned 64 (pitchOf semitones)) nan ⊗ getD «LUT_PITCH_RATIO_LOW» (toUnsigned 64 (pitchOf semitones ⊗ decimal 256 0) % 256) nan

@@ -37,5 +37,5 @@ pub fn semitones_to_ratio(semitones: f32) -> Ratio
     let pitch_integral = ieee754::truncate_usize(pitch);
     // 256 * pitch is exact, so the Rust's step, 256 times the fraction of `pitch`, is its remainder
     let step = ieee754::truncate_usize(pitch * 256.0) % 256;
-    Ratio::Of(tables::high(pitch_integral) * tables::low(step))
+    Ratio::Of(tables::high(pitch_integral as u8) * tables::low(step as u8))
 }

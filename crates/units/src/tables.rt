@@ -1,12 +1,12 @@
 // The two tables of the Rust, entry by entry. Each is a `match` on the place, which the compiler lays
-// out as constant data: an array would be copied to the stack at each call. Past the end is no number.
+// out as constant data: an array would be copied to the stack at each call.
 ghost use mathlib.Core.Path.{_≡_};
 ghost use lib.Ieee.{nan};
 ghost use lib.ListN.{getD};
 ghost use Rattle.units.specs.Tables.{«LUT_PITCH_RATIO_HIGH», «LUT_PITCH_RATIO_LOW»};
 
 // LUT_PITCH_RATIO_HIGH: 2 ^ ((i - 128) / 12) at place i, whole semitones from -128.
-pub fn high(i: usize) -> f32
+pub fn high(i: u8) -> f32
     ensures { λ r. ⌜ r ≡ getD «LUT_PITCH_RATIO_HIGH» i nan ⌝ }
 {
     match i {
@@ -266,12 +266,11 @@ pub fn high(i: usize) -> f32
         253 => 1.366876011e+03,
         254 => 1.448154688e+03,
         255 => 1.534266447e+03,
-        _ => 0.0 / 0.0,
     }
 }
 
 // LUT_PITCH_RATIO_LOW: 2 ^ (j / 3072) at place j, 256 steps within a semitone.
-pub fn low(j: usize) -> f32
+pub fn low(j: u8) -> f32
     ensures { λ r. ⌜ r ≡ getD «LUT_PITCH_RATIO_LOW» j nan ⌝ }
 {
     match j {
@@ -531,6 +530,5 @@ pub fn low(j: usize) -> f32
         253 => 1.058746185e+00,
         254 => 1.058985101e+00,
         255 => 1.059224071e+00,
-        _ => 0.0 / 0.0,
     }
 }

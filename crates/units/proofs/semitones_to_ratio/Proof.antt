@@ -1,7 +1,7 @@
 -- `units::semitones_to_ratio` meets its contract. Assumes nothing.
 use lib.Ieee.{ofBits, round}
 use borrow.Author.Needs.{needs}
-use Rattle.units.proofs.Accuracy.{refused, looked-up}
+use Rattle.units.proofs.Accuracy.{refused, integral-small, looked-up}
 use Rattle.units.proofs.semitones_to_ratio.Statement.{statement}
 use Rattle.units.proofs.semitones_to_ratio.Tie as tie
 
@@ -15,8 +15,17 @@ truncate-usize-requires c κs = search needs
 truncate-usize-requires-2 : tie.Need-truncate-usize-requires-2
 truncate-usize-requires-2 c κs = search needs
 
+cast-high : tie.Need-cast-high
+unfolding round ofBits
+cast-high c =
+    let start = c .before .before in
+    record { fits = integral-small (start .before .args .semitones) (start .if1 .left) _ (c .before .truncate-usize .ensures) }
+
 high-requires : tie.Need-high-requires
 high-requires c κs = search needs
+
+cast-low : tie.Need-cast-low
+cast-low c = search needs
 
 low-requires : tie.Need-low-requires
 low-requires c κs = search needs
@@ -35,6 +44,8 @@ semitones-to-ratio-spec =
     returns
     truncate-usize-requires
     truncate-usize-requires-2
+    cast-high
     high-requires
+    cast-low
     low-requires
     returns-2)

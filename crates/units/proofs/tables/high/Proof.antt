@@ -1,24 +1,36 @@
--- `units::tables::high` meets its contract: its code is that of the definition's table. Assumes nothing.
-use mathlib.Core.Path.{_≡_, refl}
+-- `units::tables::high` meets its contract: its code has the entries of the definition's table. Assumes nothing.
+use mathlib.Core.Path.{_≡_, refl, sym, subst}
+use mir.Syntax.{Fn}
 use lib.Ieee.{round, toBits, fits}
 use sound.WpLaws.{WpFn-mono}
+use prog.Wp.{WpFn}
 use contract.Running.{givenOf, tables, tablesOf}
 use denote.Triple.Spec.{tripleOf}
 use denote.Triple.Table.{entered}
-use denote.Triple.Walked.{walk-meets}
+use denote.Triple.Walked.{Walks, walk-meets}
 use Rattle.units.specs.Tables.{«LUT_PITCH_RATIO_HIGH»}
-use Rattle.units.proofs.Lookup.{stayed, goes, walks}
+use Rattle.units.proofs.Lookup.{function, Full, stayed, goes, walks}
 use Rattle.units.proofs.tables.high as f
 use Rattle.units.proofs.tables.high.Key.{name}
 use Rattle.units.proofs.tables.high.Statement.{statement}
 use Rattle.units.proofs.tables.high.Code as code
 
+same : code.function ≡ function «LUT_PITCH_RATIO_HIGH»
+unfolding «LUT_PITCH_RATIO_HIGH» round toBits
+same = refl
+
+full : Full «LUT_PITCH_RATIO_HIGH»
+unfolding «LUT_PITCH_RATIO_HIGH» round fits
+full = (refl, tt)
+
 pub high-spec : {M : Type 1} → statement M
-unfolding code.routine tablesOf «LUT_PITCH_RATIO_HIGH» round toBits fits
+unfolding code.routine tablesOf
 high-spec 𝓤 H 𝓜 𝓖 𝓡 =
     let W = givenOf 𝓤 H 𝓜 𝓖 in
-    let 𝓣 = tablesOf 𝓤 H 𝓜 (tables 𝓤 H 𝓜 𝓡 code.env) in
-    entered 𝓤 H (tripleOf 𝓤 H (𝓖 .A) f.signature (f.spec 𝓤 H (𝓖 .A) (𝓜 .mem) (𝓡 .run)))
-    (tables 𝓤 H 𝓜 𝓡 code.env .C) (tables 𝓤 H 𝓜 𝓡 code.env .Λ) name code.function (code.unfolded 𝓤 H 𝓜 𝓡)
-    (walk-meets 𝓤 H (𝓖 .A) f.ended stayed W (goes 𝓤 H (𝓖 .A) W) (f.clauses 𝓤 H (𝓖 .A) (𝓜 .mem) (𝓡 .run)) _ (WpFn-mono 𝓤 H (W .laws) 𝓣 code.function)
-    (walks 𝓤 H (𝓖 .A) W «LUT_PITCH_RATIO_HIGH» tt (𝓣 .C) (𝓣 .Λ)))
+    let all = tables 𝓤 H 𝓜 𝓡 code.env in
+    let 𝓣 = tablesOf 𝓤 H 𝓜 all in
+    let clauses = f.clauses 𝓤 H (𝓖 .A) (𝓜 .mem) (𝓡 .run) in
+    let walked = walks 𝓤 H (𝓖 .A) W «LUT_PITCH_RATIO_HIGH» full (𝓣 .C) (𝓣 .Λ) in
+    entered 𝓤 H (tripleOf 𝓤 H (𝓖 .A) f.signature (f.spec 𝓤 H (𝓖 .A) (𝓜 .mem) (𝓡 .run))) (all .C) (all .Λ) name code.function (code.unfolded 𝓤 H 𝓜 𝓡)
+    (walk-meets 𝓤 H (𝓖 .A) f.ended stayed W (goes 𝓤 H (𝓖 .A) W) clauses _ (WpFn-mono 𝓤 H (W .laws) 𝓣 code.function)
+    (subst (λ (g : Fn). Walks 𝓤 H (𝓖 .A) f.ended stayed (WpFn 𝓤 H (𝓣 .C) (𝓣 .Λ) g) clauses) (sym same) walked))

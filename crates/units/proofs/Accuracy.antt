@@ -7,9 +7,9 @@ use native.Mathlib.Omega.{arith}
 use lib.Dec.{T, eqb, ltb→lt, eqb→eq}
 use lib.ListN.{getD}
 use lib.IntN.{pos, _+ℤ_, _-ℤ_, +ℤ-assoc, -ℤ-+ℤ-cancel, pos-+ℤ-pos}
-use lib.Ieee.{Float, nan, inf, fin, binary32, up, down, round, ofInt, toUnsigned, le, lt}
+use lib.Ieee.{Float, nan, inf, fin, binary32, up, down, round, toUnsigned, le, lt}
 use lib.Ieee.Fits.{down-pos, and-r, add-fits}
-use Rattle.ieee754.specs.Single.{_⊖_, _⊗_, decimal}
+use Rattle.ieee754.specs.Single.{_⊗_, decimal}
 use Rattle.ieee754.proofs.Bounds.{at-most, refuted}
 use Rattle.refusal.specs.declared.Refusal.the-variants.{Pitch}
 use Rattle.units.specs.Tables.{«LUT_PITCH_RATIO_HIGH», «LUT_PITCH_RATIO_LOW»}
@@ -83,8 +83,8 @@ module _ (semitones : Float) where
   pub integral-small : le (decimal 256 0) (pitchOf semitones) ≡ false → (i : ℕ) → i ≡ toUnsigned 64 (pitchOf semitones) → i < 256
   integral-small below i e = rw e (pitch-places below .integral-below)
 
-  pub looked-up : le (decimal 256 0) (pitchOf semitones) ≡ false → (ratio : Float)
-      → ratio ≡ getD «LUT_PITCH_RATIO_HIGH» (toUnsigned 64 (pitchOf semitones)) nan ⊗ getD «LUT_PITCH_RATIO_LOW» (toUnsigned 64 (pitchOf semitones ⊗ decimal 256 0) % 256) nan
-      → Promised semitones (Of ratio)
+  pub looked-up : le (decimal 256 0) (pitchOf semitones) ≡ false → (r : Float)
+      → r ≡ getD «LUT_PITCH_RATIO_HIGH» (toUnsigned 64 (pitchOf semitones)) nan ⊗ getD «LUT_PITCH_RATIO_LOW» (toUnsigned 64 (pitchOf semitones ⊗ decimal 256 0) % 256) nan
+      → Promised semitones (Of r)
   unfolding semitonesToRatio ratio
-  looked-up below ratio e = promised (Of ratio) (rw (below, e, pitch-places below .remainder))
+  looked-up below r e = promised (Of r) (rw (below, e, pitch-places below .remainder))

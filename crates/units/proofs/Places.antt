@@ -147,7 +147,9 @@ module _ (m : ℕ) (e : ℤ) (h : m * up e < 256 * down e) (t : T (fits binary32
       div-lt-iff-lt-mul (down-pos e) .1 (lt-of-lt-of-le h (le-of-eq (mul-comm (down e) 256)))
 
   step-is : step (fin false m e) ≡ rest m e * 256 / down e
-  step-is = rw integral-is (cut ((fin false m e ⊖ ofInt binary32 (pos (whole m e))) ⊗ decimal 256 0) (rest m e * 256) (down e) (down-pos e) scaled (lt-of-lt-of-le rest-below (lit≤ tt)))
+  step-is =
+      let d = fin false m e ⊖ ofInt binary32 (pos (whole m e)) in
+      rw integral-is (cut (d ⊗ decimal 256 0) (rest m e * 256) (down e) (down-pos e) scaled (lt-of-lt-of-le rest-below (lit≤ tt)))
 
   together : 256 * whole m e + rest m e * 256 / down e ≡ 256 * (m * up e) / down e
   together =

@@ -35,7 +35,8 @@ pub fn semitones_to_ratio(semitones: f32) -> Ratio
         return Ratio::Refused(Refusal::Pitch);
     }
     let pitch_integral = ieee754::truncate_usize(pitch);
-    // 256 * pitch is exact, so the Rust's step, 256 times the fraction of `pitch`, is its remainder
+    // The Rust takes the step from the fraction of `pitch`. 256 * pitch is exact, so its remainder is the
+    // same. `pitch_integral` is not taken from it too: the compiler then makes jumps of a table.
     let step = ieee754::truncate_usize(pitch * 256.0) % 256;
     Ratio::Of(tables::high(pitch_integral as u8) * tables::low(step as u8))
 }

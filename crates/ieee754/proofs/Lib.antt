@@ -5,4 +5,5 @@ mod Formats
 pub mod NotANumber
 mod Numbers
 mod Units
+pub mod Values
 pub mod Whole

@@ -1,15 +1,13 @@
--- Differences and products of values that are known as fractions, zero included, and the sign of those that have a minus sign. Assumes nothing.
+-- Differences from a whole number, and the sign of what has a minus sign. Assumes nothing.
 use mathlib.Core.Path.{_≡_, refl, sym, ap, _∙_}
 use mathlib.Core.Bool.{Bool, true, false, cond, true≢false}
 use Prim.Native.Nat.{ℕ, zero, suc, _+_, _-_, _*_, _^_, _≤_, _<_}
-use native.Mathlib.Nat.{lt-of-lt-of-le, not-le-of-lt, mul-comm, mul-assoc, mul-left-comm, mul-right-comm, mul-mul-mul-comm, mul-one, mul-sub, mul-pos, mul-le-mul-right}
-use native.Mathlib.Omega.{arith}
+use native.Mathlib.Nat.{not-le-of-lt, mul-comm, mul-assoc, mul-left-comm, mul-right-comm, mul-one, mul-sub, mul-pos, mul-le-mul-right}
 use lib.Dec.{T, ltb, ltb→lt}
 use lib.IntN.{ℤ, pos}
-use lib.Pow.{pow-add, pow-mono, shl-lt}
 use lib.Ieee.{Float, nan, inf, fin, Format, binary32, prec, emax, low, up, down, odd, units, round, sum, sub, mul, ofInt}
 use lib.Ieee.Fits.{down-pos, round-is}
-use lib.Ieee.Exact.{HasValue, round-exact}
+use lib.Ieee.Exact.{HasValue}
 use lib.Ieee.Order.{kept, drop}
 use lib.Ieee.Scale.{round-same}
 use Rattle.ieee754.specs.Operations.{isSignMinus}

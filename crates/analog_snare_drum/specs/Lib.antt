@@ -1,1 +1,2 @@
 pub mod AnalogSnareDrum
+pub mod Excitation

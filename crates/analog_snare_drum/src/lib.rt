@@ -1,9 +1,11 @@
 // drums/analog_snare_drum.rs: 808 snare drum model, without its sustain mode.
 ghost use mathlib.Core.Path.{_≡_};
+ghost use mathlib.Core.Bool.{true};
 ghost use lib.ListN.{length};
 ghost use Rattle.refusal.specs.Refusal.{answerNumber, KnobIn};
 ghost use Rattle.block.specs.Block.{samples, after};
 ghost use Rattle.analog_snare_drum.specs.AnalogSnareDrum as spec;
+ghost use Rattle.analog_snare_drum.specs.Excitation.{excitation, AtRest};
 use filter::FilterMode;
 use filter::FrequencyApproximation;
 use filter::Svf;
@@ -51,6 +53,15 @@ struct Settings {
 struct Sounding {
     voice: AnalogSnareDrum,
     noise: u32,
+}
+
+// The pulse and its low-pass after one sample, and what excites the first mode and the others.
+struct Excitation {
+    remaining_samples: u32,
+    pulse: f32,
+    pulse_lp: f32,
+    first: f32,
+    other: f32,
 }
 
 // The voice and the noise state after one sample, and the sample.
@@ -197,13 +208,21 @@ impl AnalogSnareDrum {
     {
         let mut voice = self;
         let mut state = noise;
+        let mut e = voice.excitation();
+        // The pulse decays to a subnormal that its product rounds back to itself. From then on no
+        // turn changes the excitation, and products of subnormals are slow: e is kept.
+        let mut at_rest = voice.is_at_rest(e);
         let mut i = 0;
         while i < out.len() {
-            let s = voice.step(state, settings);
+            let s = voice.step(state, settings, e);
             voice = s.voice;
             state = s.noise;
             out[i] = s.sample;
             i += 1;
+            if !at_rest {
+                e = voice.excitation();
+                at_rest = voice.is_at_rest(e);
+            }
         }
         Sounding {
             voice,
@@ -211,9 +230,9 @@ impl AnalogSnareDrum {
         }
     }
 
-    // One turn of the loop.
-    fn step(self, noise: u32, settings: Settings) -> Step
-        ensures { λ r. ⌜ r ≡ spec.step settings self noise ⌝ }
+    // What the next turn of the loop makes of the pulse.
+    fn excitation(self) -> Excitation
+        ensures { λ r. ⌜ r ≡ excitation self ⌝ }
     {
         // Q45 / Q46
         let trigger_pulse = TriggerPulse {
@@ -226,17 +245,42 @@ impl AnalogSnareDrum {
 
         // R189 / C57 / R190 + C58 / C59 / R197 / R196 / IC14
         let pulse_lp = utils::one_pole(self.pulse_lp, pulse, 0.75);
-        let first = (pulse - pulse_lp) + 0.006 * pulse;
-        let other = 0.026 * pulse;
-        let s = self.shell_output(settings, first, other);
+        Excitation {
+            remaining_samples: p.remaining_samples,
+            pulse,
+            pulse_lp,
+            first: (pulse - pulse_lp) + 0.006 * pulse,
+            other: 0.026 * pulse,
+        }
+    }
+
+    // Whether the turn leaves the pulse and its low-pass as they are.
+    fn is_at_rest(self, e: Excitation) -> bool
+        ensures { λ r. ⌜ (r ≡ true → AtRest self e) × (AtRest self e → r ≡ true) ⌝ }
+    {
+        if e.remaining_samples != self.pulse_remaining_samples {
+            return false;
+        }
+        if !is_same(e.pulse, self.pulse) {
+            return false;
+        }
+        is_same(e.pulse_lp, self.pulse_lp)
+    }
+
+    // One turn of the loop.
+    fn step(self, noise: u32, settings: Settings, e: Excitation) -> Step
+        requires { ⌜ e ≡ excitation self ⌝ }
+        ensures { λ r. ⌜ r ≡ spec.step settings self noise ⌝ }
+    {
+        let s = self.shell_output(settings, e.first, e.other);
         let n = self.noise_output(settings, noise);
         let resonator = s.resonator;
         let noise_filter = n.noise_filter;
         let voice = AnalogSnareDrum {
-            pulse_remaining_samples: p.remaining_samples,
-            pulse,
+            pulse_remaining_samples: e.remaining_samples,
+            pulse: e.pulse,
             pulse_height: self.pulse_height,
-            pulse_lp,
+            pulse_lp: e.pulse_lp,
             noise_envelope: n.noise_envelope,
             resonator,
             noise_filter,
@@ -312,6 +356,13 @@ fn mode_output(
         resonator: next,
         shell: shell + gain * (o.out + excitation * exciter_leak),
     }
+}
+
+// Whether x and y have one pattern: 0.0 is not -0.0 here, and a NaN is a NaN.
+fn is_same(x: f32, y: f32) -> bool
+    ensures { λ r. ⌜ (r ≡ true → x ≡ y) × (x ≡ y → r ≡ true) ⌝ }
+{
+    ieee754::to_bits(x) == ieee754::to_bits(y)
 }
 
 fn not_negative(noise: f32) -> f32

@@ -1,1 +1,2 @@
 pub mod AnalogBassDrum
+pub mod Rest

@@ -1,9 +1,12 @@
 // drums/analog_bass_drum.rs: 808 bass drum model, without its sustain mode.
 ghost use mathlib.Core.Path.{_≡_};
+ghost use mathlib.Core.Bool.{true};
 ghost use lib.ListN.{length};
 ghost use Rattle.refusal.specs.Refusal.{answerNumber, KnobIn};
 ghost use Rattle.block.specs.Block.{samples, after};
+ghost use Rattle.ieee754.specs.Single.{_⊕_, _⊗_, decimal};
 ghost use Rattle.analog_bass_drum.specs.AnalogBassDrum as spec;
+ghost use Rattle.analog_bass_drum.specs.Rest.{excitation, Rest};
 use filter::FilterMode;
 use filter::FrequencyApproximation;
 use filter::Svf;
@@ -53,14 +56,34 @@ struct FmPulse {
     retrig_pulse: f32,
 }
 
+// What of a turn comes to rest after a strike: the new fields of the voice, and what the rest of the turn takes from them.
+struct Excitation {
+    pulse_remaining_samples: u32,
+    fm_pulse_remaining_samples: u32,
+    pulse: f32,
+    pulse_lp: f32,
+    fm_pulse_lp: f32,
+    rectified: f32,
+    leak: f32,
+    attack: f32,
+}
+
 fn diode(x: f32) -> f32
     ensures { λ r. ⌜ r ≡ spec.diode x ⌝ }
 {
     if x >= 0.0 {
         return x;
     }
+    // y is negative or no number, so this is 1.0 plus its magnitude
     let y = x * 2.0;
-    0.7 * y / (1.0 + ieee754::abs(y))
+    0.7 * y / (1.0 - y)
+}
+
+// Are two floats one value? -0.0 is not 0.0 here.
+fn same(x: f32, y: f32) -> bool
+    ensures { λ r. ⌜ (r ≡ true → x ≡ y) ⌝ }
+{
+    ieee754::to_bits(x) == ieee754::to_bits(y)
 }
 
 impl AnalogBassDrum {
@@ -164,18 +187,24 @@ impl AnalogBassDrum {
         ensures block { λ _. ⌜ now (out .exit) ≡ samples (spec.turn settings) (length (now (out .entry))) self ⌝ }
     {
         let mut voice = self;
+        // The pulses end in subnormals that no turn changes. Products of these are slow: they are not computed again.
+        let mut e = self.excitation(settings);
+        let mut at_rest = self.is_at_rest(e);
         let mut i = 0;
         while i < out.len() {
-            voice = voice.step(settings);
+            if !at_rest {
+                e = voice.excitation(settings);
+                at_rest = voice.is_at_rest(e);
+            }
+            voice = voice.step(settings, e);
             out[i] = voice.tone_lp;
             i += 1;
         }
         voice
     }
 
-    // One turn of the loop. The sample is tone_lp.
-    fn step(self, settings: Settings) -> Self
-        ensures { λ r. ⌜ r ≡ spec.step settings self ⌝ }
+    fn excitation(self, settings: Settings) -> Excitation
+        ensures { λ r. ⌜ r ≡ excitation settings self ⌝ }
     {
         // Q39 / Q40
         let trigger_pulse = TriggerPulse {
@@ -186,35 +215,69 @@ impl AnalogBassDrum {
 
         // C40 / R163 / R162 / D83
         let pulse_lp = utils::one_pole(self.pulse_lp, p.pulse, 1.0 / self.pulse_filter_time);
-        let pulse = diode((p.pulse - pulse_lp) + p.pulse * 0.044);
+        let rectified = diode((p.pulse - pulse_lp) + p.pulse * 0.044);
 
+        // Q43 / R165
         let m = self.fm_pulse();
         let fm_pulse_lp = utils::one_pole(
             self.fm_pulse_lp,
             m.fm_pulse,
             1.0 / self.pulse_filter_time,
         );
-        let f = frequency(settings, fm_pulse_lp, self.lp_out);
-        let tuned = self.resonator
-            .set_f_q(f, 1.0 + settings.q * f, FrequencyApproximation::Dirty);
-        let d = tuned.process_dual(
-            (pulse - m.retrig_pulse * 0.2) * settings.scale,
-            FilterMode::BandPass,
-            FilterMode::LowPass,
-        );
-        let tone_lp = utils::one_pole(
-            self.tone_lp,
-            pulse * settings.exciter_leak + d.out_1,
-            settings.tone_f,
-        );
-        let resonator = d.filter;
-        AnalogBassDrum {
+        Excitation {
             pulse_remaining_samples: p.remaining_samples,
             fm_pulse_remaining_samples: m.remaining_samples,
             pulse: p.pulse,
-            pulse_height: self.pulse_height,
             pulse_lp,
             fm_pulse_lp,
+            rectified,
+            leak: rectified * settings.exciter_leak,
+            attack: 1.0 + fm_pulse_lp * 1.7 * settings.attack_fm_amount,
+        }
+    }
+
+    // Does the excitation leave the voice's fields as they are?
+    fn is_at_rest(self, e: Excitation) -> bool
+        ensures { λ r. ⌜ (r ≡ true → Rest self e) ⌝ }
+    {
+        if self.pulse_remaining_samples != e.pulse_remaining_samples {
+            return false;
+        }
+        if self.fm_pulse_remaining_samples != e.fm_pulse_remaining_samples {
+            return false;
+        }
+        if !same(self.pulse, e.pulse) {
+            return false;
+        }
+        if !same(self.pulse_lp, e.pulse_lp) {
+            return false;
+        }
+        same(self.fm_pulse_lp, e.fm_pulse_lp)
+    }
+
+    // A turn of the loop, from its excitation on. The sample is tone_lp.
+    fn step(self, settings: Settings, e: Excitation) -> Self
+        requires { ⌜ e ≡ excitation settings self ⌝ }
+        ensures { λ r. ⌜ r ≡ spec.step settings self ⌝ }
+    {
+        let m = self.fm_pulse();
+        let f = frequency(settings, e, self.lp_out);
+        let tuned = self.resonator
+            .set_f_q(f, 1.0 + settings.q * f, FrequencyApproximation::Dirty);
+        let d = tuned.process_dual(
+            (e.rectified - m.retrig_pulse * 0.2) * settings.scale,
+            FilterMode::BandPass,
+            FilterMode::LowPass,
+        );
+        let tone_lp = utils::one_pole(self.tone_lp, e.leak + d.out_1, settings.tone_f);
+        let resonator = d.filter;
+        AnalogBassDrum {
+            pulse_remaining_samples: e.pulse_remaining_samples,
+            fm_pulse_remaining_samples: e.fm_pulse_remaining_samples,
+            pulse: e.pulse,
+            pulse_height: self.pulse_height,
+            pulse_lp: e.pulse_lp,
+            fm_pulse_lp: e.fm_pulse_lp,
             retrig_pulse: m.retrig_pulse,
             lp_out: d.out_2,
             tone_lp,
@@ -300,14 +363,13 @@ impl Settings {
 }
 
 // The resonator's frequency.
-fn frequency(settings: Settings, fm_pulse_lp: f32, lp_out: f32) -> f32
-    ensures { λ r. ⌜ r ≡ spec.frequency settings «fm_pulse_lp» «lp_out» ⌝ }
+fn frequency(settings: Settings, e: Excitation, lp_out: f32) -> f32
+    requires { ⌜ e .attack ≡ decimal 1 0 ⊕ e .«fm_pulse_lp» ⊗ decimal 17 1 ⊗ settings .«attack_fm_amount» ⌝ }
+    ensures { λ r. ⌜ r ≡ spec.frequency settings (e .«fm_pulse_lp») «lp_out» ⌝ }
 {
     // Q43 and R170 leakage
     let punch = 0.7 + diode(10.0 * lp_out - 1.0);
 
-    // Q43 / R165
-    let attack_fm = fm_pulse_lp * 1.7 * settings.attack_fm_amount;
     let self_fm = punch * 0.08 * settings.self_fm_amount;
-    ieee754::clamp(settings.f0 * (1.0 + attack_fm + self_fm), 0.0, 0.4)
+    ieee754::clamp(settings.f0 * (e.attack + self_fm), 0.0, 0.4)
 }

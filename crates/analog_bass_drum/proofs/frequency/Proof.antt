@@ -13,7 +13,9 @@ clamp-requires c κs = search needs
 
 returns : tie.Need-returns
 unfolding frequency round ofBits
-returns c = rw (c .clamp .ensures, c .before .before .before .before .diode .ensures)
+returns c =
+    let d = c .before .before .before .before in
+    rw (c .clamp .ensures, d .diode .ensures, d .before .pre)
 
 pub frequency-spec : {M : Type 1} → statement M
 frequency-spec = tie.close (tie.spec diode-requires clamp-requires returns)

@@ -1,26 +1,56 @@
--- `analog_bass_drum::AnalogBassDrum::run` meets its contract, by `block`'s law of a source's loop. Assumes nothing.
+-- `analog_bass_drum::AnalogBassDrum::run` meets its contract, by `block`'s law of a source's loop; a held excitation stays right. Assumes nothing.
 use borrow.Author.Needs.{needs}
+use borrow.Author.Tests.{not-true, not-false}
 use Prim.Native.Nat.{_-_}
 use native.Mathlib.Omega.{arith}
+use mathlib.Core.Path.{_≡_}
+use mathlib.Core.Bool.{true}
+use mathlib.Core.Logic.{⊎-elim}
 use lib.ListN.{length, length-set}
 use Rattle.block.specs.Block.{source}
 use Rattle.block.proofs.Blocks.{Going, begin, end-source}
 use Rattle.block.proofs.Blocks.{turn as going}
 use Rattle.analog_bass_drum.specs.AnalogBassDrum.{turn}
+use Rattle.analog_bass_drum.specs.Rest.{excitation, Rest}
+use Rattle.analog_bass_drum.proofs.Held.{Held, held}
 use Rattle.analog_bass_drum.proofs.AnalogBassDrum.run.Statement.{statement}
 use Rattle.analog_bass_drum.proofs.AnalogBassDrum.run.Tie as tie
 
 abbrev Inv-loop : tie.InvT-loop
-Inv-loop settings out₀ voice₀ i₀ out voice i = Going (source (turn settings)) voice₀ out₀ out₀ voice out i
+Inv-loop settings out₀ voice₀ e₀ at-rest₀ i₀ out voice e at-rest i =
+    Going (source (turn settings)) voice₀ out₀ out₀ voice out i × (at-rest ≡ true → Held settings voice e)
 
 abbrev μ-loop : tie.MeasureT-loop
-μ-loop settings out₀ voice₀ i₀ out voice i = length out - i
+μ-loop settings out₀ voice₀ e₀ at-rest₀ i₀ out voice e at-rest i = length out - i
+
+-- where the arms of the branch meet, e is the excitation of the turn
+joined : (c : tie.Joined1 Inv-loop μ-loop) → let s = c .before .before .before .before .before .before in
+    let v = c .before .before .loop .voice in
+    (c .if1 .e ≡ excitation (s .args .settings) v) × (c .if1 .at-rest ≡ true → Rest v (c .if1 .e))
+joined c =
+    let l = c .before .before .loop in
+    ⊎-elim
+    (λ w. rw (w .3, w .4) (w .1 .ensures, w .2 .ensures))
+    (λ w. let k = l .inv .1 (not-false (l .at-rest) (w .0 .left)) in rw (w .1, w .2) (k .0, λ _. k .1))
+    (c .if1 .came)
+
+excitation-requires : tie.Need-excitation-requires Inv-loop μ-loop
+excitation-requires c κs = search needs
+
+is-at-rest-requires : tie.Need-is-at-rest-requires Inv-loop μ-loop
+is-at-rest-requires c κs = search needs
 
 loop-holds : tie.Need-loop-holds Inv-loop μ-loop
-loop-holds c = begin _ _ _ _ (omega arith)
+loop-holds c = (begin _ _ _ _ (omega arith), λ h. (c .before .excitation .ensures, c .is-at-rest .ensures h))
+
+excitation-requires-2 : tie.Need-excitation-requires-2 Inv-loop μ-loop
+excitation-requires-2 c κs = search needs
+
+is-at-rest-requires-2 : tie.Need-is-at-rest-requires-2 Inv-loop μ-loop
+is-at-rest-requires-2 c κs = search needs
 
 step-requires : tie.Need-step-requires Inv-loop μ-loop
-step-requires c κs = search needs
+step-requires c κs = joined c .0
 
 mul-out : tie.Need-mul-out Inv-loop μ-loop
 mul-out c = search needs
@@ -36,14 +66,15 @@ loop-less c = simp length-set (omega arith)
 
 loop-again : tie.Need-loop-again Inv-loop μ-loop
 loop-again c =
-    let l = c .before .before in
-    rw (c .step .ensures) (going _ _ _ _ _ _ _ (l .loop .inv) (omega (arith, l .loop .inv .long)))
+    let l = c .before .before .before in
+    let j = joined (c .before) in
+    rw (c .step .ensures) (going _ _ _ _ _ _ _ (l .loop .inv .0) (omega (arith, l .loop .inv .0 .long)), λ h. held _ _ _ (j .0) (j .1 h))
 
 same-length : tie.Need-same-length Inv-loop μ-loop
-same-length c = c .before .loop .inv .long
+same-length c = c .before .loop .inv .0 .long
 
 returns : tie.Need-returns Inv-loop μ-loop
-returns c = end-source _ _ _ _ _ _ (c .before .loop .inv) (c .loop-test .left)
+returns c = end-source _ _ _ _ _ _ (c .before .loop .inv .0) (c .loop-test .left)
 
 pub run-spec : {M : Type 1} → statement M
 run-spec =
@@ -51,7 +82,11 @@ run-spec =
     (tie.spec
     Inv-loop
     μ-loop
+    excitation-requires
+    is-at-rest-requires
     loop-holds
+    excitation-requires-2
+    is-at-rest-requires-2
     step-requires
     mul-out
     slice-write-out

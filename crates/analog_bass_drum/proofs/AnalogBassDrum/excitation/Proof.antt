@@ -1,0 +1,42 @@
+-- `analog_bass_drum::AnalogBassDrum::excitation` meets its contract: the last call first. Assumes nothing.
+use borrow.Author.Needs.{needs}
+use lib.Ieee.{round, ofBits}
+use Rattle.analog_bass_drum.specs.AnalogBassDrum.{step}
+use Rattle.analog_bass_drum.specs.Rest.{excitation}
+use Rattle.analog_bass_drum.proofs.AnalogBassDrum.excitation.Statement.{statement}
+use Rattle.analog_bass_drum.proofs.AnalogBassDrum.excitation.Tie as tie
+
+next-requires : tie.Need-next-requires
+next-requires c κs = search needs
+
+one-pole-requires : tie.Need-one-pole-requires
+one-pole-requires c κs = search needs
+
+diode-requires : tie.Need-diode-requires
+diode-requires c κs = search needs
+
+fm-pulse-requires : tie.Need-fm-pulse-requires
+fm-pulse-requires c κs = search needs
+
+one-pole-requires-2 : tie.Need-one-pole-requires-2
+one-pole-requires-2 c κs = search needs
+
+returns : tie.Need-returns
+unfolding excitation step round ofBits
+returns c =
+    let c₁ = c .before .before in
+    let c₂ = c₁ .before .before in
+    let c₃ = c₂ .before in
+    let c₄ = c₃ .before .before .before in
+    rw (c₁ .one-pole2 .ensures, c₂ .fm-pulse .ensures, c₃ .diode .ensures, c₄ .one-pole .ensures, c₄ .before .before .next .ensures)
+
+pub excitation-spec : {M : Type 1} → statement M
+excitation-spec =
+    tie.close
+    (tie.spec
+    next-requires
+    one-pole-requires
+    diode-requires
+    fm-pulse-requires
+    one-pole-requires-2
+    returns)

@@ -1,0 +1,55 @@
+-- `analog_bass_drum::AnalogBassDrum::is_at_rest` meets its contract. Assumes nothing.
+use borrow.Author.Needs.{needs}
+use borrow.Author.Tests.{not-false}
+use mathlib.Core.Bool.{false≢true}
+use Rattle.analog_bass_drum.proofs.AnalogBassDrum.is_at_rest.Statement.{statement}
+use Rattle.analog_bass_drum.proofs.AnalogBassDrum.is_at_rest.Tie as tie
+
+returns : tie.Need-returns
+returns c h = absurd (false≢true h)
+
+returns-2 : tie.Need-returns-2
+returns-2 c h = absurd (false≢true h)
+
+same-requires : tie.Need-same-requires
+same-requires c κs = search needs
+
+returns-3 : tie.Need-returns-3
+returns-3 c h = absurd (false≢true h)
+
+same-requires-2 : tie.Need-same-requires-2
+same-requires-2 c κs = search needs
+
+returns-4 : tie.Need-returns-4
+returns-4 c h = absurd (false≢true h)
+
+same-requires-3 : tie.Need-same-requires-3
+same-requires-3 c κs = search needs
+
+returns-5 : tie.Need-returns-5
+returns-5 c h =
+    let c₁ = c .before in
+    let c₂ = c₁ .before in
+    let c₃ = c₂ .before in
+    let c₄ = c₃ .before in
+    let c₅ = c₄ .before in
+    record {
+      count = c₅ .before .before .before .if1 .left;
+      fm-count = c₅ .if2 .left;
+      level = c₄ .same .ensures (not-false (c₄ .same .result) (c₃ .if3 .left));
+      low-pass = c₂ .same2 .ensures (not-false (c₂ .same2 .result) (c₁ .if4 .left));
+      fm-low-pass = c .same3 .ensures h;
+    }
+
+pub is-at-rest-spec : {M : Type 1} → statement M
+is-at-rest-spec =
+    tie.close
+    (tie.spec
+    returns
+    returns-2
+    same-requires
+    returns-3
+    same-requires-2
+    returns-4
+    same-requires-3
+    returns-5)

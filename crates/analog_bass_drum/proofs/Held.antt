@@ -1,5 +1,5 @@
 -- An excitation at rest is that of the next turn too. Assumes nothing.
-use mathlib.Core.Path.{_≡_, refl, sym, ap, _∙_}
+use mathlib.Core.Path.{_≡_, refl, _∙_}
 use Prim.Native.Nat.{ℕ, zero, suc}
 use lib.Ieee.{Float}
 use Rattle.analog_bass_drum.specs.AnalogBassDrum.{fmPulse, step}

@@ -6,7 +6,7 @@ use Rattle.analog_bass_drum.specs.declared.AnalogBassDrum.{AnalogBassDru
 use Rattle.analog_bass_drum.specs.declared.Settings.{Settings}
 use Rattle.analog_bass_drum.specs.declared.Excitation.{Excitation}
 
--- the fields that the turn gives the voice, and what the rest of the turn takes from them: `pulse` past the diode, its leak, and 1.0 + attack_fm
+-- the fields that the turn gives the voice, and what is made of them for what is left of it: `pulse` past the diode, its leak, and 1.0 + attack_fm
 unfoldable pub excitation : Settings → AnalogBassDrum → Excitation
 excitation b v =
     let next = step b v in

@@ -56,7 +56,7 @@ struct FmPulse {
     retrig_pulse: f32,
 }
 
-// What of a turn comes to rest after a strike: the new fields of the voice, and what the rest of the turn takes from them.
+// What of a turn comes to rest after a strike: the new fields of the voice, and what is made of them for what is left of the turn.
 struct Excitation {
     pulse_remaining_samples: u32,
     fm_pulse_remaining_samples: u32,
@@ -81,7 +81,7 @@ fn diode(x: f32) -> f32
 
 // Are two floats one value? -0.0 is not 0.0 here.
 fn same(x: f32, y: f32) -> bool
-    ensures { λ r. ⌜ (r ≡ true → x ≡ y) ⌝ }
+    ensures { λ r. ⌜ (r ≡ true → x ≡ y) × (x ≡ y → r ≡ true) ⌝ }
 {
     ieee754::to_bits(x) == ieee754::to_bits(y)
 }
@@ -203,6 +203,7 @@ impl AnalogBassDrum {
         voice
     }
 
+    // The parts of a turn of the loop that come to rest.
     fn excitation(self, settings: Settings) -> Excitation
         ensures { λ r. ⌜ r ≡ excitation settings self ⌝ }
     {
@@ -217,13 +218,15 @@ impl AnalogBassDrum {
         let pulse_lp = utils::one_pole(self.pulse_lp, p.pulse, 1.0 / self.pulse_filter_time);
         let rectified = diode((p.pulse - pulse_lp) + p.pulse * 0.044);
 
-        // Q43 / R165
         let m = self.fm_pulse();
         let fm_pulse_lp = utils::one_pole(
             self.fm_pulse_lp,
             m.fm_pulse,
             1.0 / self.pulse_filter_time,
         );
+
+        // Q43 / R165
+        let attack_fm = fm_pulse_lp * 1.7 * settings.attack_fm_amount;
         Excitation {
             pulse_remaining_samples: p.remaining_samples,
             fm_pulse_remaining_samples: m.remaining_samples,
@@ -232,13 +235,13 @@ impl AnalogBassDrum {
             fm_pulse_lp,
             rectified,
             leak: rectified * settings.exciter_leak,
-            attack: 1.0 + fm_pulse_lp * 1.7 * settings.attack_fm_amount,
+            attack: 1.0 + attack_fm,
         }
     }
 
     // Does the excitation leave the voice's fields as they are?
     fn is_at_rest(self, e: Excitation) -> bool
-        ensures { λ r. ⌜ (r ≡ true → Rest self e) ⌝ }
+        ensures { λ r. ⌜ (r ≡ true → Rest self e) × (Rest self e → r ≡ true) ⌝ }
     {
         if self.pulse_remaining_samples != e.pulse_remaining_samples {
             return false;
@@ -255,7 +258,7 @@ impl AnalogBassDrum {
         same(self.fm_pulse_lp, e.fm_pulse_lp)
     }
 
-    // A turn of the loop, from its excitation on. The sample is tone_lp.
+    // What is left of the turn. The sample is tone_lp.
     fn step(self, settings: Settings, e: Excitation) -> Self
         requires { ⌜ e ≡ excitation settings self ⌝ }
         ensures { λ r. ⌜ r ≡ spec.step settings self ⌝ }
@@ -369,7 +372,6 @@ fn frequency(settings: Settings, e: Excitation, lp_out: f32) -> f32
 {
     // Q43 and R170 leakage
     let punch = 0.7 + diode(10.0 * lp_out - 1.0);
-
     let self_fm = punch * 0.08 * settings.self_fm_amount;
     ieee754::clamp(settings.f0 * (e.attack + self_fm), 0.0, 0.4)
 }

@@ -1,6 +1,6 @@
 -- `analog_bass_drum::same` meets its contract: of two floats with one pattern each is what the pattern stands for. Assumes nothing.
 use borrow.Author.Needs.{needs}
-use borrow.Author.Tests.{eqb-true}
+use borrow.Author.Tests.{eqb-true, eq-eqb}
 use mathlib.Core.Path.{_≡_, sym, ap, _∙_}
 use lib.Dec.{T}
 use lib.Ieee.{Float, binary32, fits, toBits, ofBits}
@@ -18,9 +18,14 @@ to-bits-requires-2 : tie.Need-to-bits-requires-2
 to-bits-requires-2 c κs = search needs
 
 returns : tie.Need-returns
-returns c h =
+returns c =
     let s = c .before .before in
-    one-pattern (s .args .x) (s .args .y) (rw (s .good .0 .1) tt) (rw (s .good .1 .0 .1) tt) (sym (c .before .to-bits .ensures) ∙ eqb-true _ _ h ∙ c .to-bits2 .ensures)
+    let a = s .args in
+    let x = c .before .to-bits .ensures in
+    let y = c .to-bits2 .ensures in (
+      λ h. one-pattern (a .x) (a .y) (rw (s .good .0 .1) tt) (rw (s .good .1 .0 .1) tt) (sym x ∙ eqb-true _ _ h ∙ y),
+      λ h. eq-eqb _ _ (x ∙ ap (toBits binary32) h ∙ sym y),
+    )
 
 pub same-spec : {M : Type 1} → statement M
 same-spec = tie.close (tie.spec to-bits-requires to-bits-requires-2 returns)

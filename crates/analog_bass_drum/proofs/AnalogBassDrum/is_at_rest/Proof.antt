@@ -1,45 +1,52 @@
 -- `analog_bass_drum::AnalogBassDrum::is_at_rest` meets its contract. Assumes nothing.
 use borrow.Author.Needs.{needs}
-use borrow.Author.Tests.{not-false}
+use borrow.Author.Tests.{not-true, not-false}
+use mathlib.Core.Path.{sym, _∙_}
 use mathlib.Core.Bool.{false≢true}
 use Rattle.analog_bass_drum.proofs.AnalogBassDrum.is_at_rest.Statement.{statement}
 use Rattle.analog_bass_drum.proofs.AnalogBassDrum.is_at_rest.Tie as tie
 
 returns : tie.Need-returns
-returns c h = absurd (false≢true h)
+returns c = (λ h. absurd (false≢true h), λ r. absurd (c .if1 .taken (r .count)))
 
 returns-2 : tie.Need-returns-2
-returns-2 c h = absurd (false≢true h)
+returns-2 c = (λ h. absurd (false≢true h), λ r. absurd (c .if2 .taken (r .fm-count)))
 
 same-requires : tie.Need-same-requires
 same-requires c κs = search needs
 
 returns-3 : tie.Need-returns-3
-returns-3 c h = absurd (false≢true h)
+returns-3 c =
+    let s = c .before .same in
+    (λ h. absurd (false≢true h), λ r. sym (not-true (s .result) (c .if3 .taken)) ∙ s .ensures .1 (r .level))
 
 same-requires-2 : tie.Need-same-requires-2
 same-requires-2 c κs = search needs
 
 returns-4 : tie.Need-returns-4
-returns-4 c h = absurd (false≢true h)
+returns-4 c =
+    let s = c .before .same2 in
+    (λ h. absurd (false≢true h), λ r. sym (not-true (s .result) (c .if4 .taken)) ∙ s .ensures .1 (r .low-pass))
 
 same-requires-3 : tie.Need-same-requires-3
 same-requires-3 c κs = search needs
 
 returns-5 : tie.Need-returns-5
-returns-5 c h =
+returns-5 c =
     let c₁ = c .before in
     let c₂ = c₁ .before in
     let c₃ = c₂ .before in
     let c₄ = c₃ .before in
-    let c₅ = c₄ .before in
-    record {
-      count = c₅ .before .before .before .if1 .left;
-      fm-count = c₅ .if2 .left;
-      level = c₄ .same .ensures (not-false (c₄ .same .result) (c₃ .if3 .left));
-      low-pass = c₂ .same2 .ensures (not-false (c₂ .same2 .result) (c₁ .if4 .left));
-      fm-low-pass = c .same3 .ensures h;
-    }
+    let c₅ = c₄ .before in (
+      λ h. record {
+        count = c₅ .before .before .before .if1 .left;
+        fm-count = c₅ .if2 .left;
+        level = c₄ .same .ensures .0 (not-false (c₄ .same .result) (c₃ .if3 .left));
+        low-pass = c₂ .same2 .ensures .0 (not-false (c₂ .same2 .result) (c₁ .if4 .left));
+        fm-low-pass = c .same3 .ensures .0 h;
+      },
+      λ r. c .same3 .ensures .1 (r .fm-low-pass),
+    )
 
 pub is-at-rest-spec : {M : Type 1} → statement M
 is-at-rest-spec =

@@ -1,6 +1,6 @@
 -- `analog_bass_drum::AnalogBassDrum::run` meets its contract, by `block`'s law of a source's loop; a held excitation stays right. Assumes nothing.
 use borrow.Author.Needs.{needs}
-use borrow.Author.Tests.{not-true, not-false}
+use borrow.Author.Tests.{not-false}
 use Prim.Native.Nat.{_-_}
 use native.Mathlib.Omega.{arith}
 use mathlib.Core.Path.{_≡_}
@@ -30,7 +30,7 @@ joined : (c : tie.Joined1 Inv-loop μ-loop) → let s = c .before .before .befor
 joined c =
     let l = c .before .before .loop in
     ⊎-elim
-    (λ w. rw (w .3, w .4) (w .1 .ensures, w .2 .ensures))
+    (λ w. rw (w .3, w .4) (w .1 .ensures, w .2 .ensures .0))
     (λ w. let k = l .inv .1 (not-false (l .at-rest) (w .0 .left)) in rw (w .1, w .2) (k .0, λ _. k .1))
     (c .if1 .came)
 
@@ -41,7 +41,7 @@ is-at-rest-requires : tie.Need-is-at-rest-requires Inv-loop μ-loop
 is-at-rest-requires c κs = search needs
 
 loop-holds : tie.Need-loop-holds Inv-loop μ-loop
-loop-holds c = (begin _ _ _ _ (omega arith), λ h. (c .before .excitation .ensures, c .is-at-rest .ensures h))
+loop-holds c = (begin _ _ _ _ (omega arith), λ h. (c .before .excitation .ensures, c .is-at-rest .ensures .0 h))
 
 excitation-requires-2 : tie.Need-excitation-requires-2 Inv-loop μ-loop
 excitation-requires-2 c κs = search needs

@@ -2,6 +2,8 @@
 ghost use mathlib.Core.Path.{_≡_};
 ghost use Prim.Native.Nat.{_≤_};
 ghost use lib.ListN.{length};
+ghost use Rattle.ieee754.specs.Single.{_⊕_, decimal};
+ghost use Rattle.ieee754.specs.Operations.{abs};
 ghost use Rattle.refusal.specs.Refusal.{answerNumber, KnobIn};
 ghost use Rattle.block.specs.Block.{samples, after};
 ghost use Rattle.synthetic_snare_drum.specs.SyntheticSnareDrum as spec;
@@ -434,13 +436,24 @@ fn distorted_sine(phase: f32) -> f32
     ensures { λ r. ⌜ r ≡ spec.distortedSine phase ⌝ }
 {
     let triangle = folded(phase) * 4.0 - 1.3;
-    2.0 * triangle / (1.0 + ieee754::abs(triangle))
+    2.0 * triangle / one_plus_abs(triangle)
 }
 
+// The smaller of phase and 1.0 - phase: below 0.5 it is the phase.
 fn folded(phase: f32) -> f32
     ensures { λ r. ⌜ r ≡ spec.folded phase ⌝ }
 {
-    if phase < 0.5 { phase } else { 1.0 - phase }
+    let rest = 1.0 - phase;
+    if phase < rest { phase } else { rest }
+}
+
+// 1.0 + |x|, as the larger of two: no question whether x is a number.
+fn one_plus_abs(x: f32) -> f32
+    ensures { λ r. ⌜ r ≡ decimal 1 0 ⊕ abs x ⌝ }
+{
+    let below = 1.0 - x;
+    let above = 1.0 + x;
+    if below > above { below } else { above }
 }
 
 fn snare(

@@ -1,0 +1,203 @@
+-- Two choices that one comparison makes, for every x: x is below 1 - x where it is below 0.5, and the larger of 1 - x and 1 + x is 1 + |x|. Assumes nothing.
+use borrow.Author.Tests.{ltb-true, ltb-false, lt-ltb, le-ltb}
+use mathlib.Core.Path.{_≡_, refl, sym, ap, _∙_}
+use mathlib.Core.Bool.{Bool, true, false, cond, _&&_, _||_, Bool·beq, true≢false}
+use Prim.Native.Nat.{ℕ, zero, suc, _+_, _-_, _*_, _^_, _≤_, _<_}
+use native.Mathlib.Nat.{le-refl, mul-pos, mul-le-mul-right, mul-lt-mul-of-pos-right}
+use native.Mathlib.Omega.{arith}
+use lib.IntN.{ℤ, negsuc}
+use lib.Dec.{T, ltb, eqb, eqb→eq, ltb→lt, lit<}
+use lib.Ieee.{Float, nan, inf, fin, Format, binary32, prec, emax, low, up, down, odd, units, round, sum, add, sub, neg, lt, eq, le, fits, toBits, ofBits}
+use lib.Ieee.Bits.{ofBits-toBits}
+use lib.Ieee.Fits.{and-l, up-pos, down-pos, round-is, round-fits}
+use lib.Ieee.Nearest.{div-same}
+use lib.Ieee.Order.{kept, drop, round-mono}
+use lib.Ieee.Positive.{above, above-of-le, through}
+use Rattle.ieee754.specs.Operations.{isSignMinus, abs}
+use Rattle.ieee754.specs.Single.{_⊕_, _⊖_, decimal}
+use Rattle.ieee754.proofs.Bounds.{at-most}
+
+-- ---- a rounded fraction has its sign
+odd-sign : (d : ℕ) (s : Bool) (q k l : ℕ) → isSignMinus (odd d s q k l) ≡ s
+unfolding odd isSignMinus
+odd-sign d s zero k l = refl
+odd-sign d s (suc q) k l = refl
+
+units-sign : (f : Format) (s : Bool) (q k : ℕ) → isSignMinus (units f s q k) ≡ s
+unfolding units isSignMinus
+units-sign f s q k = go (ltb (q * 2 ^ k) (2 ^ (low f + suc (emax f))))
+  where
+    go : (b : Bool) → isSignMinus (cond b (odd (suc (prec f)) s q k (low f)) (inf s)) ≡ s
+    go true = odd-sign (suc (prec f)) s q k (low f)
+    go false = refl
+
+round-sign : (f : Format) (s : Bool) (n c : ℕ) → isSignMinus (round f s n c) ≡ s
+round-sign f s n c = ap isSignMinus (round-is f s n c) ∙ units-sign f s (kept (prec f) (n * 2 ^ low f) c) (drop (prec f) (n * 2 ^ low f) c)
+
+-- ---- comparisons by signs
+minus-lt : (x y : Float) → isSignMinus x ≡ true → T (above y) → lt x y ≡ true
+unfolding lt isSignMinus
+minus-lt nan y s p = absurd (true≢false (sym s))
+minus-lt (inf false) y s p = absurd (true≢false (sym s))
+minus-lt (inf true) nan s p = absurd p
+minus-lt (inf true) (inf true) s p = absurd p
+minus-lt (inf true) (inf false) s p = refl
+minus-lt (inf true) (fin t n d) s p = refl
+minus-lt (fin false m e) y s p = absurd (true≢false (sym s))
+minus-lt (fin true m e) nan s p = absurd p
+minus-lt (fin true m e) (inf true) s p = absurd p
+minus-lt (fin true m e) (inf false) s p = refl
+minus-lt (fin true m e) (fin true n d) s p = absurd p
+minus-lt (fin true m e) (fin false n d) s p =
+    let h : 0 < n * up d * down e = mul-pos (mul-pos (ltb→lt 0 n p) (up-pos d)) (down-pos e) in
+    lt-ltb 0 (m * up e * down d + n * up d * down e) (omega arith)
+
+plus-not-lt : (x y : Float) → isSignMinus x ≡ false → isSignMinus y ≡ true → lt x y ≡ false
+unfolding lt isSignMinus
+plus-not-lt x nan s t = absurd (true≢false (sym t))
+plus-not-lt x (inf false) s t = absurd (true≢false (sym t))
+plus-not-lt x (fin false n d) s t = absurd (true≢false (sym t))
+plus-not-lt nan (inf true) s t = refl
+plus-not-lt nan (fin true n d) s t = refl
+plus-not-lt (inf true) (inf true) s t = absurd (true≢false s)
+plus-not-lt (inf true) (fin true n d) s t = absurd (true≢false s)
+plus-not-lt (inf false) (inf true) s t = refl
+plus-not-lt (inf false) (fin true n d) s t = refl
+plus-not-lt (fin true m e) (inf true) s t = refl
+plus-not-lt (fin true m e) (fin true n d) s t = absurd (true≢false s)
+plus-not-lt (fin false m e) (inf true) s t = refl
+plus-not-lt (fin false m e) (fin true n d) s t = refl
+
+-- ---- comparisons through a third value, in between
+fin-not-lt : (m n : ℕ) (e d : ℤ) (z : Float) → n * up d * down e ≤ m * up e * down d → T (le z (fin false n d)) → lt (fin false m e) z ≡ false
+unfolding lt le
+fin-not-lt m n e d nan h l = refl
+fin-not-lt m n e d (inf true) h l = refl
+fin-not-lt m n e d (inf false) h l = absurd l
+fin-not-lt m n e d (fin true k g) h l = refl
+fin-not-lt m n e d (fin false k g) h l =
+    le-ltb (m * up e * down g) (k * up g * down e)
+    (through (k * up g) (n * up d) (m * up e) (down g) (down d) (down e) (down-pos d) (at-most (k * up g * down d) (n * up d * down g) true l) h)
+
+not-lt : (x y : Float) → isSignMinus x ≡ false → T (le y x) → lt x y ≡ false
+unfolding lt isSignMinus
+not-lt nan y s h = refl
+not-lt (inf true) y s h = absurd (true≢false s)
+not-lt (inf false) nan s h = refl
+not-lt (inf false) (inf t) s h = refl
+not-lt (inf false) (fin t n d) s h = refl
+not-lt (fin true m e) y s h = absurd (true≢false s)
+not-lt (fin false m e) y s h = fin-not-lt m m e e y (le-refl _) h
+
+-- ---- equal numbers of one sign are one value
+same-bits : (f : Format) (s : Bool) (m n : ℕ) (e d : ℤ) → m * up e * down d ≡ n * up d * down e → toBits f (fin s m e) ≡ toBits f (fin s n d)
+unfolding toBits
+same-bits f s m n e d h = rw (div-same (m * up e * 2 ^ low f) (down e) (n * up d * 2 ^ low f) (down d) (down-pos e) (down-pos d) (omega (arith, ap (λ (k : ℕ). k * 2 ^ low f) h)))
+
+one-value : (f : Format) (x y : Float) → T (fits f x) → T (fits f y) → isSignMinus x ≡ isSignMinus y → T (eq x y) → x ≡ y
+unfolding eq isSignMinus
+one-value f nan y F G p h = absurd h
+one-value f (inf s) nan F G p h = absurd h
+one-value f (inf s) (inf t) F G p h = ap inf p
+one-value f (inf s) (fin t n d) F G p h = absurd h
+one-value f (fin s m e) nan F G p h = absurd h
+one-value f (fin s m e) (inf t) F G p h = absurd h
+one-value f (fin s m e) (fin t n d) F G p h =
+    let a = m * up e * down d in
+    let b = n * up d * down e in
+    sym (ofBits-toBits f (fin s m e) F)
+    ∙ ap (ofBits f) (ap (λ (u : Bool). toBits f (fin u m e)) p ∙ same-bits f t m n e d (eqb→eq a b (and-l (eqb a b) (Bool·beq s t || eqb a 0) h)))
+    ∙ ofBits-toBits f (fin t n d) G
+
+-- ---- a / c less b / c, and a / c and b / c together
+module _ (f : Format) (a b c : ℕ) (C : 0 < c) where
+  abbrev less : Float
+  less = sum f false a true b c
+
+  abbrev more : Float
+  more = round f false (a + b) c
+
+  no-larger : T (le (round f false (a - b) c) more)
+  no-larger = round-mono f (a - b) c (a + b) c C C (mul-le-mul-right c (omega arith))
+
+  more-not-lt : lt more less ≡ false
+  unfolding sum
+  more-not-lt = go (ltb a b)
+    where
+      go : (t : Bool) → lt more (cond t (round f true (b - a) c) (round f false (a - b) c)) ≡ false
+      go true = plus-not-lt more (round f true (b - a) c) (round-sign f false (a + b) c) (round-sign f true (b - a) c)
+      go false = not-lt more (round f false (a - b) c) (round-sign f false (a + b) c) no-larger
+
+  larger : T (above more) → cond (lt less more) more less ≡ more
+  unfolding sum le
+  larger p = go (ltb a b)
+    where
+      chosen : (t : Bool) (x : Float) → (t ≡ false → x ≡ more) → cond t more x ≡ more
+      chosen true x h = refl
+      chosen false x h = h refl
+
+      go : (t : Bool) → let x = cond t (round f true (b - a) c) (round f false (a - b) c) in cond (lt x more) more x ≡ more
+      go true = rw (minus-lt (round f true (b - a) c) more (round-sign f true (b - a) c) p)
+      go false =
+          chosen (lt (round f false (a - b) c) more) (round f false (a - b) c) (λ h.
+          one-value f (round f false (a - b) c) more (round-fits f false (a - b) c) (round-fits f false (a + b) c)
+          (round-sign f false (a - b) c ∙ sym (round-sign f false (a + b) c)) (rw h at no-larger))
+
+-- ---- the two laws
+
+-- 1 + |x| is at least 1
+one-more : (a b c : ℕ) → 0 < c → c ≤ a → T (above (round binary32 false (a + b) c))
+unfolding round
+one-more a b c C h = above-of-le (decimal 1 0) (round binary32 false (a + b) c) tt (round-mono binary32 1 1 (a + b) c (lit< tt) C (omega arith))
+
+pub one-plus-abs : (x : Float) → cond (lt (decimal 1 0 ⊕ x) (decimal 1 0 ⊖ x)) (decimal 1 0 ⊖ x) (decimal 1 0 ⊕ x) ≡ decimal 1 0 ⊕ abs x
+unfolding round add sub neg lt abs
+one-plus-abs nan = refl
+one-plus-abs (inf true) = refl
+one-plus-abs (inf false) = refl
+one-plus-abs (fin false m e) = rw (more-not-lt binary32 (1 * down e) (m * up e * 1) (1 * down e) (omega (arith, down-pos e)))
+one-plus-abs (fin true m e) =
+    let D : 0 < 1 * down e = omega (arith, down-pos e) in
+    larger binary32 (1 * down e) (m * up e * 1) (1 * down e) D (one-more (1 * down e) (m * up e * 1) (1 * down e) D (le-refl _))
+
+fin-lt : (m : ℕ) (e : ℤ) (z : Float) → m * up e * 2 < down e → T (le (decimal 5 1) z) → lt (fin false m e) z ≡ true
+unfolding round lt le
+fin-lt m e nan h l = absurd l
+fin-lt m e (inf true) h l = absurd l
+fin-lt m e (inf false) h l = refl
+fin-lt m e (fin true k g) h l = absurd (above-of-le (decimal 5 1) (fin true k g) tt l)
+fin-lt m e (fin false k g) h l =
+    lt-ltb (m * up e * down g) (k * up g * down e)
+    (omega (arith, mul-lt-mul-of-pos-right h (down-pos g), mul-le-mul-right (down e) (at-most (1 * down g) (k * up g * 2) true l)))
+
+module _ (m : ℕ) (e : ℤ) where
+  abbrev num : ℕ
+  num = m * up e * 1
+
+  abbrev den : ℕ
+  den = 1 * down e
+
+  den-pos : 0 < den
+  den-pos = omega (arith, down-pos e)
+
+  folds-plus : (t u : Bool) → ltb den num ≡ t → ltb (m * up e * 2) den ≡ u
+      → lt (fin false m e) (cond t (round binary32 true (num - den) den) (round binary32 false (den - num) den)) ≡ u
+  unfolding isSignMinus round
+  folds-plus true true p q = absurd (omega (arith, ltb-true den num p, ltb-true (m * up e * 2) den q))
+  folds-plus true false p q = plus-not-lt (fin false m e) (round binary32 true (num - den) den) refl (round-sign binary32 true (num - den) den)
+  folds-plus false true p q =
+      let h = ltb-true (m * up e * 2) den q in
+      fin-lt m e (round binary32 false (den - num) den) (omega arith) (round-mono binary32 5 10 (den - num) den (lit< tt) den-pos (omega arith))
+  folds-plus false false p q =
+      let h = ltb-false (m * up e * 2) den q in
+      fin-not-lt m 1 e (negsuc 0) (round binary32 false (den - num) den) (omega arith) (round-mono binary32 (den - num) den 5 10 den-pos (lit< tt) (omega arith))
+
+pub folds : (x : Float) → lt x (decimal 1 0 ⊖ x) ≡ lt x (decimal 5 1)
+unfolding round sub add neg lt isSignMinus
+folds nan = refl
+folds (inf true) = refl
+folds (inf false) = refl
+folds (fin true m e) =
+    minus-lt (fin true m e) (decimal 1 0 ⊖ fin true m e) refl (one-more (1 * down e) (m * up e * 1) (1 * down e) (omega (arith, down-pos e)) (le-refl _))
+    ∙ sym (minus-lt (fin true m e) (decimal 5 1) refl tt)
+folds (fin false m e) = folds-plus m e (ltb (1 * down e) (m * up e * 1)) (ltb (m * up e * 2) (1 * down e)) refl refl

@@ -6,7 +6,7 @@ ghost use Rattle.refusal.specs.Refusal.{answerNumber, KnobIn};
 ghost use Rattle.block.specs.Block.{samples, after};
 ghost use Rattle.ieee754.specs.Single.{_⊕_, _⊗_, decimal};
 ghost use Rattle.analog_bass_drum.specs.AnalogBassDrum as spec;
-ghost use Rattle.analog_bass_drum.specs.Rest.{excitation, Rest};
+ghost use Rattle.analog_bass_drum.specs.Excitation.{excitation, AtRest};
 use filter::FilterMode;
 use filter::FrequencyApproximation;
 use filter::Svf;
@@ -77,13 +77,6 @@ fn diode(x: f32) -> f32
     // y is negative or no number, so this is 1.0 plus its magnitude
     let y = x * 2.0;
     0.7 * y / (1.0 - y)
-}
-
-// Are two floats one value? -0.0 is not 0.0 here.
-fn same(x: f32, y: f32) -> bool
-    ensures { λ r. ⌜ (r ≡ true → x ≡ y) × (x ≡ y → r ≡ true) ⌝ }
-{
-    ieee754::to_bits(x) == ieee754::to_bits(y)
 }
 
 impl AnalogBassDrum {
@@ -241,7 +234,7 @@ impl AnalogBassDrum {
 
     // Does the excitation leave the voice's fields as they are?
     fn is_at_rest(self, e: Excitation) -> bool
-        ensures { λ r. ⌜ (r ≡ true → Rest self e) × (Rest self e → r ≡ true) ⌝ }
+        ensures { λ r. ⌜ (r ≡ true → AtRest self e) × (AtRest self e → r ≡ true) ⌝ }
     {
         if self.pulse_remaining_samples != e.pulse_remaining_samples {
             return false;
@@ -249,13 +242,13 @@ impl AnalogBassDrum {
         if self.fm_pulse_remaining_samples != e.fm_pulse_remaining_samples {
             return false;
         }
-        if !same(self.pulse, e.pulse) {
+        if !ieee754::is_same(self.pulse, e.pulse) {
             return false;
         }
-        if !same(self.pulse_lp, e.pulse_lp) {
+        if !ieee754::is_same(self.pulse_lp, e.pulse_lp) {
             return false;
         }
-        same(self.fm_pulse_lp, e.fm_pulse_lp)
+        ieee754::is_same(self.fm_pulse_lp, e.fm_pulse_lp)
     }
 
     // What is left of the turn. The sample is tone_lp.

@@ -261,10 +261,10 @@ impl AnalogSnareDrum {
         if e.remaining_samples != self.pulse_remaining_samples {
             return false;
         }
-        if !is_same(e.pulse, self.pulse) {
+        if !ieee754::is_same(e.pulse, self.pulse) {
             return false;
         }
-        is_same(e.pulse_lp, self.pulse_lp)
+        ieee754::is_same(e.pulse_lp, self.pulse_lp)
     }
 
     // One turn of the loop.
@@ -356,13 +356,6 @@ fn mode_output(
         resonator: next,
         shell: shell + gain * (o.out + excitation * exciter_leak),
     }
-}
-
-// Whether x and y have one pattern: 0.0 is not -0.0 here, and a NaN is a NaN.
-fn is_same(x: f32, y: f32) -> bool
-    ensures { λ r. ⌜ (r ≡ true → x ≡ y) × (x ≡ y → r ≡ true) ⌝ }
-{
-    ieee754::to_bits(x) == ieee754::to_bits(y)
 }
 
 fn not_negative(noise: f32) -> f32

@@ -4,6 +4,7 @@ pub mod Fields
 mod Formats
 pub mod NotANumber
 mod Numbers
-mod Units
+pub mod Signs
+pub mod Units
 pub mod Values
 pub mod Whole

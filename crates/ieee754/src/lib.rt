@@ -12,6 +12,7 @@ pub use convert::truncate_u32;
 pub use convert::truncate_usize;
 pub use operations::abs;
 pub use operations::clamp;
+pub use operations::is_same;
 pub use operations::maximum_number;
 pub use operations::minimum_number;
 pub use pattern::from_bits;

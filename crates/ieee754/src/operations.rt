@@ -1,6 +1,15 @@
-// The sign cleared, the smaller and the larger of two numbers, and a value held between bounds.
+// Sameness, the sign cleared, the smaller and the larger of two numbers, and a value held between bounds.
 ghost use mathlib.Core.Path.{_≡_};
+ghost use mathlib.Core.Bool.{true};
 ghost use Rattle.ieee754.specs.Operations as Operations;
+use crate::pattern::to_bits;
+
+// Whether x and y are one value: -0.0 is not 0.0 here, and a not-a-number is a not-a-number.
+pub fn is_same(x: f32, y: f32) -> bool
+    ensures { λ r. ⌜ (r ≡ true → x ≡ y) × (x ≡ y → r ≡ true) ⌝ }
+{
+    to_bits(x) == to_bits(y)
+}
 
 // x with a positive sign.
 pub fn abs(x: f32) -> f32

@@ -1,38 +1,22 @@
 -- Two choices that one comparison makes, for every x: x is below 1 - x where it is below 0.5, and the larger of 1 - x and 1 + x is 1 + |x|. Assumes nothing.
 use borrow.Author.Tests.{ltb-true, ltb-false, lt-ltb, le-ltb}
 use mathlib.Core.Path.{_≡_, refl, sym, ap, _∙_}
-use mathlib.Core.Bool.{Bool, true, false, cond, _&&_, _||_, Bool·beq, true≢false}
-use Prim.Native.Nat.{ℕ, zero, suc, _+_, _-_, _*_, _^_, _≤_, _<_}
+use mathlib.Core.Bool.{Bool, true, false, cond, _||_, Bool·beq, true≢false}
+use Prim.Native.Nat.{ℕ, _+_, _-_, _*_, _≤_, _<_}
 use native.Mathlib.Nat.{le-refl, mul-pos, mul-le-mul-right, mul-lt-mul-of-pos-right}
 use native.Mathlib.Omega.{arith}
 use lib.IntN.{ℤ, negsuc}
 use lib.Dec.{T, ltb, eqb, eqb→eq, ltb→lt, lit<}
-use lib.Ieee.{Float, nan, inf, fin, Format, binary32, prec, emax, low, up, down, odd, units, round, sum, add, sub, neg, lt, eq, le, fits, toBits, ofBits}
+use lib.Ieee.{Float, nan, inf, fin, Format, binary32, up, down, round, sum, add, sub, neg, lt, eq, le, fits, toBits, ofBits}
 use lib.Ieee.Bits.{ofBits-toBits}
-use lib.Ieee.Fits.{and-l, up-pos, down-pos, round-is, round-fits}
-use lib.Ieee.Nearest.{div-same}
-use lib.Ieee.Order.{kept, drop, round-mono}
+use lib.Ieee.Fits.{and-l, up-pos, down-pos, round-fits}
+use lib.Ieee.Order.{round-mono}
 use lib.Ieee.Positive.{above, above-of-le, through}
 use Rattle.ieee754.specs.Operations.{isSignMinus, abs}
 use Rattle.ieee754.specs.Single.{_⊕_, _⊖_, decimal}
 use Rattle.ieee754.proofs.Bounds.{at-most}
-
--- ---- a rounded fraction has its sign
-odd-sign : (d : ℕ) (s : Bool) (q k l : ℕ) → isSignMinus (odd d s q k l) ≡ s
-unfolding odd isSignMinus
-odd-sign d s zero k l = refl
-odd-sign d s (suc q) k l = refl
-
-units-sign : (f : Format) (s : Bool) (q k : ℕ) → isSignMinus (units f s q k) ≡ s
-unfolding units isSignMinus
-units-sign f s q k = go (ltb (q * 2 ^ k) (2 ^ (low f + suc (emax f))))
-  where
-    go : (b : Bool) → isSignMinus (cond b (odd (suc (prec f)) s q k (low f)) (inf s)) ≡ s
-    go true = odd-sign (suc (prec f)) s q k (low f)
-    go false = refl
-
-round-sign : (f : Format) (s : Bool) (n c : ℕ) → isSignMinus (round f s n c) ≡ s
-round-sign f s n c = ap isSignMinus (round-is f s n c) ∙ units-sign f s (kept (prec f) (n * 2 ^ low f) c) (drop (prec f) (n * 2 ^ low f) c)
+use Rattle.ieee754.proofs.Signs.{round-sign}
+use Rattle.ieee754.proofs.Units.{same-bits}
 
 -- ---- comparisons by signs
 minus-lt : (x y : Float) → isSignMinus x ≡ true → T (above y) → lt x y ≡ true
@@ -90,10 +74,6 @@ not-lt (fin true m e) y s h = absurd (true≢false s)
 not-lt (fin false m e) y s h = fin-not-lt m m e e y (le-refl _) h
 
 -- ---- equal numbers of one sign are one value
-same-bits : (f : Format) (s : Bool) (m n : ℕ) (e d : ℤ) → m * up e * down d ≡ n * up d * down e → toBits f (fin s m e) ≡ toBits f (fin s n d)
-unfolding toBits
-same-bits f s m n e d h = rw (div-same (m * up e * 2 ^ low f) (down e) (n * up d * 2 ^ low f) (down d) (down-pos e) (down-pos d) (omega (arith, ap (λ (k : ℕ). k * 2 ^ low f) h)))
-
 one-value : (f : Format) (x y : Float) → T (fits f x) → T (fits f y) → isSignMinus x ≡ isSignMinus y → T (eq x y) → x ≡ y
 unfolding eq isSignMinus
 one-value f nan y F G p h = absurd h

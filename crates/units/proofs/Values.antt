@@ -1,16 +1,16 @@
 -- Differences from a whole number, and the sign of what has a minus sign. Assumes nothing.
 use mathlib.Core.Path.{_≡_, refl, sym, ap, _∙_}
 use mathlib.Core.Bool.{Bool, true, false, cond, true≢false}
-use Prim.Native.Nat.{ℕ, zero, suc, _+_, _-_, _*_, _^_, _≤_, _<_}
+use Prim.Native.Nat.{ℕ, _+_, _-_, _*_, _^_, _≤_, _<_}
 use native.Mathlib.Nat.{not-le-of-lt, mul-comm, mul-assoc, mul-left-comm, mul-right-comm, mul-one, mul-sub, mul-pos, mul-le-mul-right}
 use lib.Dec.{T, ltb, ltb→lt}
 use lib.IntN.{ℤ, pos}
-use lib.Ieee.{Float, nan, inf, fin, Format, binary32, prec, emax, low, up, down, odd, units, round, sum, sub, mul, ofInt}
-use lib.Ieee.Fits.{down-pos, round-is}
+use lib.Ieee.{Float, nan, inf, fin, Format, binary32, up, down, round, sum, sub, mul, ofInt}
+use lib.Ieee.Fits.{down-pos}
 use lib.Ieee.Exact.{HasValue}
-use lib.Ieee.Order.{kept, drop}
 use lib.Ieee.Scale.{round-same}
 use Rattle.ieee754.specs.Operations.{isSignMinus}
+use Rattle.ieee754.proofs.Signs.{round-sign}
 use Rattle.ieee754.specs.Single.{decimal}
 
 -- ---- m * 2 ^ e - i, for a whole i that is no larger
@@ -39,21 +39,6 @@ less-whole f m e (fin false n d) i v h =
     (spread (m * up e) (i * down e) (down e) (down d))
 
 -- ---- a minus sign stays
-minus-odd : (d q k l : ℕ) → isSignMinus (odd d true q k l) ≡ true
-unfolding odd isSignMinus
-minus-odd d zero k l = refl
-minus-odd d (suc q) k l = refl
-
-minus-units : (f : Format) (q k : ℕ) → isSignMinus (units f true q k) ≡ true
-unfolding units isSignMinus
-minus-units f q k = go (ltb (q * 2 ^ k) (2 ^ (low f + suc (emax f))))
-  where
-    go : (b : Bool) → isSignMinus (cond b (odd (suc (prec f)) true q k (low f)) (inf true)) ≡ true
-    go true = minus-odd (suc (prec f)) q k (low f)
-    go false = refl
-
-minus-round : (f : Format) (a c : ℕ) → isSignMinus (round f true a c) ≡ true
-minus-round f a c = ap isSignMinus (round-is f true a c) ∙ minus-units f (kept (prec f) (a * 2 ^ low f) c) (drop (prec f) (a * 2 ^ low f) c)
 
 -- x - 0
 pub minus-less : (x : Float) → isSignMinus x ≡ true → isSignMinus (sub binary32 x (ofInt binary32 (pos 0))) ≡ true
@@ -61,7 +46,7 @@ unfolding sub ofInt isSignMinus
 minus-less nan h = h
 minus-less (inf true) h = refl
 minus-less (inf false) h = h
-minus-less (fin true m e) h = minus-round binary32 (m * up e * 1 + 0 * 1 * down e) (down e * 1)
+minus-less (fin true m e) h = round-sign binary32 true (m * up e * 1 + 0 * 1 * down e) (down e * 1)
 minus-less (fin false m e) h = absurd (true≢false (sym h))
 
 -- 256 * x
@@ -70,5 +55,5 @@ unfolding mul round isSignMinus
 minus-times nan h = h
 minus-times (inf true) h = refl
 minus-times (inf false) h = h
-minus-times (fin true m e) h = minus-round binary32 (m * up e * 256) (down e * 1)
+minus-times (fin true m e) h = round-sign binary32 true (m * up e * 256) (down e * 1)
 minus-times (fin false m e) h = absurd (true≢false (sym h))

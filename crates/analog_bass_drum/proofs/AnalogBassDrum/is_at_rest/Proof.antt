@@ -12,24 +12,24 @@ returns c = (λ h. absurd (false≢true h), λ r. absurd (c .if1 .taken (r .coun
 returns-2 : tie.Need-returns-2
 returns-2 c = (λ h. absurd (false≢true h), λ r. absurd (c .if2 .taken (r .fm-count)))
 
-same-requires : tie.Need-same-requires
-same-requires c κs = search needs
+is-same-requires : tie.Need-is-same-requires
+is-same-requires c κs = search needs
 
 returns-3 : tie.Need-returns-3
 returns-3 c =
-    let s = c .before .same in
+    let s = c .before .is-same in
     (λ h. absurd (false≢true h), λ r. sym (not-true (s .result) (c .if3 .taken)) ∙ s .ensures .1 (r .level))
 
-same-requires-2 : tie.Need-same-requires-2
-same-requires-2 c κs = search needs
+is-same-requires-2 : tie.Need-is-same-requires-2
+is-same-requires-2 c κs = search needs
 
 returns-4 : tie.Need-returns-4
 returns-4 c =
-    let s = c .before .same2 in
+    let s = c .before .is-same2 in
     (λ h. absurd (false≢true h), λ r. sym (not-true (s .result) (c .if4 .taken)) ∙ s .ensures .1 (r .low-pass))
 
-same-requires-3 : tie.Need-same-requires-3
-same-requires-3 c κs = search needs
+is-same-requires-3 : tie.Need-is-same-requires-3
+is-same-requires-3 c κs = search needs
 
 returns-5 : tie.Need-returns-5
 returns-5 c =
@@ -41,11 +41,11 @@ returns-5 c =
       λ h. record {
         count = c₅ .before .before .before .if1 .left;
         fm-count = c₅ .if2 .left;
-        level = c₄ .same .ensures .0 (not-false (c₄ .same .result) (c₃ .if3 .left));
-        low-pass = c₂ .same2 .ensures .0 (not-false (c₂ .same2 .result) (c₁ .if4 .left));
-        fm-low-pass = c .same3 .ensures .0 h;
+        level = c₄ .is-same .ensures .0 (not-false (c₄ .is-same .result) (c₃ .if3 .left));
+        low-pass = c₂ .is-same2 .ensures .0 (not-false (c₂ .is-same2 .result) (c₁ .if4 .left));
+        fm-low-pass = c .is-same3 .ensures .0 h;
       },
-      λ r. c .same3 .ensures .1 (r .fm-low-pass),
+      λ r. c .is-same3 .ensures .1 (r .fm-low-pass),
     )
 
 pub is-at-rest-spec : {M : Type 1} → statement M
@@ -54,9 +54,9 @@ is-at-rest-spec =
     (tie.spec
     returns
     returns-2
-    same-requires
+    is-same-requires
     returns-3
-    same-requires-2
+    is-same-requires-2
     returns-4
-    same-requires-3
+    is-same-requires-3
     returns-5)

@@ -11,8 +11,8 @@ use Rattle.block.specs.Block.{source}
 use Rattle.block.proofs.Blocks.{Going, begin, end-source}
 use Rattle.block.proofs.Blocks.{turn as going}
 use Rattle.analog_bass_drum.specs.AnalogBassDrum.{turn}
-use Rattle.analog_bass_drum.specs.Rest.{excitation, Rest}
-use Rattle.analog_bass_drum.proofs.Held.{Held, held}
+use Rattle.analog_bass_drum.specs.Excitation.{excitation, AtRest}
+use Rattle.analog_bass_drum.proofs.Rest.{Held, held}
 use Rattle.analog_bass_drum.proofs.AnalogBassDrum.run.Statement.{statement}
 use Rattle.analog_bass_drum.proofs.AnalogBassDrum.run.Tie as tie
 
@@ -26,7 +26,7 @@ abbrev μ-loop : tie.MeasureT-loop
 -- where the arms of the branch meet, e is the excitation of the turn
 joined : (c : tie.Joined1 Inv-loop μ-loop) → let s = c .before .before .before .before .before .before in
     let v = c .before .before .loop .voice in
-    (c .if1 .e ≡ excitation (s .args .settings) v) × (c .if1 .at-rest ≡ true → Rest v (c .if1 .e))
+    (c .if1 .e ≡ excitation (s .args .settings) v) × (c .if1 .at-rest ≡ true → AtRest v (c .if1 .e))
 joined c =
     let l = c .before .before .loop in
     ⊎-elim

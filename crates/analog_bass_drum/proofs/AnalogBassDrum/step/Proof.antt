@@ -2,7 +2,7 @@
 use borrow.Author.Needs.{needs}
 use lib.Ieee.{round, ofBits}
 use Rattle.analog_bass_drum.specs.AnalogBassDrum.{step}
-use Rattle.analog_bass_drum.specs.Rest.{excitation}
+use Rattle.analog_bass_drum.specs.Excitation.{excitation}
 use Rattle.analog_bass_drum.proofs.AnalogBassDrum.step.Statement.{statement}
 use Rattle.analog_bass_drum.proofs.AnalogBassDrum.step.Tie as tie
 

@@ -23,7 +23,7 @@ excitation b v =
     }
 
 -- the turn leaves those fields as they are
-pub record Rest (v : AnalogBassDrum) (e : Excitation) : Type 0 where
+pub record AtRest (v : AnalogBassDrum) (e : Excitation) : Type 0 where
   pub count : v .«pulse_remaining_samples» ≡ e .«pulse_remaining_samples»
   pub fm-count : v .«fm_pulse_remaining_samples» ≡ e .«fm_pulse_remaining_samples»
   pub level : v .pulse ≡ e .pulse

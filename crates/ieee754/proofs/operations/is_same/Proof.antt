@@ -1,12 +1,12 @@
--- `analog_snare_drum::is_same` meets its contract: a pattern that fits is read back as the value. Assumes nothing.
+-- `ieee754::is_same` meets its contract: a pattern that fits is read back as the value. Assumes nothing.
 use borrow.Author.Needs.{needs}
 use borrow.Author.Tests.{eqb-true, eq-eqb}
 use mathlib.Core.Path.{_≡_, sym, ap, _∙_}
 use lib.Dec.{T}
 use lib.Ieee.{Float, binary32, fits, ofBits, toBits}
 use lib.Ieee.Bits.{ofBits-toBits}
-use Rattle.analog_snare_drum.proofs.is_same.Statement.{statement}
-use Rattle.analog_snare_drum.proofs.is_same.Tie as tie
+use Rattle.ieee754.proofs.operations.is_same.Statement.{statement}
+use Rattle.ieee754.proofs.operations.is_same.Tie as tie
 
 same : (x y : Float) → T (fits binary32 x) → T (fits binary32 y) → toBits binary32 x ≡ toBits binary32 y → x ≡ y
 same x y hx hy e = sym (ofBits-toBits binary32 x hx) ∙ ap (ofBits binary32) e ∙ ofBits-toBits binary32 y hy

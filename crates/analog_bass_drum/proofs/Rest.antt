@@ -3,14 +3,14 @@ use mathlib.Core.Path.{_≡_, refl, _∙_}
 use Prim.Native.Nat.{ℕ, zero, suc}
 use lib.Ieee.{Float}
 use Rattle.analog_bass_drum.specs.AnalogBassDrum.{fmPulse, step}
-use Rattle.analog_bass_drum.specs.Rest.{excitation, Rest}
+use Rattle.analog_bass_drum.specs.Excitation.{excitation, AtRest}
 use Rattle.analog_bass_drum.specs.declared.AnalogBassDrum.{AnalogBassDrum}
 use Rattle.analog_bass_drum.specs.declared.Settings.{Settings}
 use Rattle.analog_bass_drum.specs.declared.Excitation.{Excitation}
 
 -- e is the excitation of v's turn, and leaves v's fields as they are
 abbrev pub Held : Settings → AnalogBassDrum → Excitation → Type 0
-Held b v e = (e ≡ excitation b v) × Rest v e
+Held b v e = (e ≡ excitation b v) × AtRest v e
 
 -- the FM pulse and its countdown do not depend on the retrigger pulse
 fm-count-alike : (k : ℕ) (r s d c : Float) → fmPulse k r d .«remaining_samples» ≡ fmPulse k s c .«remaining_samples»
@@ -36,9 +36,9 @@ alike b v w n k p l m h d f =
     let u = w .«retrig_pulse_duration» in
     rw (n, k, p, l, m, h, d, f, fm-count-alike (w .«fm_pulse_remaining_samples») r s t u, fm-pulse-alike (w .«fm_pulse_remaining_samples») r s t u)
 
-pub held : (b : Settings) (v : AnalogBassDrum) (e : Excitation) → e ≡ excitation b v → Rest v e → Held b (step b v) e
+pub held : (b : Settings) (v : AnalogBassDrum) (e : Excitation) → e ≡ excitation b v → AtRest v e → Held b (step b v) e
 unfolding excitation step
 held b v e known rest =
-    let r : Rest v (excitation b v) = rw known at rest in
+    let r : AtRest v (excitation b v) = rw known at rest in
     let again = alike b v (step b v) (r .count) (r .fm-count) (r .level) (r .low-pass) (r .fm-low-pass) refl refl refl in
     (known ∙ again, rw known record { count = refl; fm-count = refl; level = refl; low-pass = refl; fm-low-pass = refl })

@@ -18,7 +18,7 @@ use Rattle.ieee754.proofs.Bounds.{at-most}
 use Rattle.ieee754.proofs.Signs.{round-sign}
 use Rattle.ieee754.proofs.Units.{same-bits}
 
--- ---- comparisons by signs
+-- ---- what has a minus sign is below what is above 0
 minus-lt : (x y : Float) → isSignMinus x ≡ true → T (above y) → lt x y ≡ true
 unfolding lt isSignMinus
 minus-lt nan y s p = absurd (true≢false (sym s))
@@ -36,23 +36,11 @@ minus-lt (fin true m e) (fin false n d) s p =
     let h : 0 < n * up d * down e = mul-pos (mul-pos (ltb→lt 0 n p) (up-pos d)) (down-pos e) in
     lt-ltb 0 (m * up e * down d + n * up d * down e) (omega arith)
 
-plus-not-lt : (x y : Float) → isSignMinus x ≡ false → isSignMinus y ≡ true → lt x y ≡ false
-unfolding lt isSignMinus
-plus-not-lt x nan s t = absurd (true≢false (sym t))
-plus-not-lt x (inf false) s t = absurd (true≢false (sym t))
-plus-not-lt x (fin false n d) s t = absurd (true≢false (sym t))
-plus-not-lt nan (inf true) s t = refl
-plus-not-lt nan (fin true n d) s t = refl
-plus-not-lt (inf true) (inf true) s t = absurd (true≢false s)
-plus-not-lt (inf true) (fin true n d) s t = absurd (true≢false s)
-plus-not-lt (inf false) (inf true) s t = refl
-plus-not-lt (inf false) (fin true n d) s t = refl
-plus-not-lt (fin true m e) (inf true) s t = refl
-plus-not-lt (fin true m e) (fin true n d) s t = absurd (true≢false s)
-plus-not-lt (fin false m e) (inf true) s t = refl
-plus-not-lt (fin false m e) (fin true n d) s t = refl
+minus-le : (x y : Float) → isSignMinus x ≡ true → T (above y) → T (le x y)
+unfolding le
+minus-le x y s p = rw (minus-lt x y s p) tt
 
--- ---- comparisons through a third value, in between
+-- ---- what lies at or above an upper bound of z is not below z
 fin-not-lt : (m n : ℕ) (e d : ℤ) (z : Float) → n * up d * down e ≤ m * up e * down d → T (le z (fin false n d)) → lt (fin false m e) z ≡ false
 unfolding lt le
 fin-not-lt m n e d nan h l = refl
@@ -90,7 +78,7 @@ one-value f (fin s m e) (fin t n d) F G p h =
     ∙ ofBits-toBits f (fin t n d) G
 
 -- ---- a / c less b / c, and a / c and b / c together
-module _ (f : Format) (a b c : ℕ) (C : 0 < c) where
+module _ (f : Format) (a b c : ℕ) (C : 0 < c) (p : T (above (round f false (a + b) c))) where
   abbrev less : Float
   less = sum f false a true b c
 
@@ -102,15 +90,15 @@ module _ (f : Format) (a b c : ℕ) (C : 0 < c) where
 
   more-not-lt : lt more less ≡ false
   unfolding sum
-  more-not-lt = go (ltb a b)
+  more-not-lt = not-lt more less (round-sign f false (a + b) c) (go (ltb a b))
     where
-      go : (t : Bool) → lt more (cond t (round f true (b - a) c) (round f false (a - b) c)) ≡ false
-      go true = plus-not-lt more (round f true (b - a) c) (round-sign f false (a + b) c) (round-sign f true (b - a) c)
-      go false = not-lt more (round f false (a - b) c) (round-sign f false (a + b) c) no-larger
+      go : (t : Bool) → T (le (cond t (round f true (b - a) c) (round f false (a - b) c)) more)
+      go true = minus-le (round f true (b - a) c) more (round-sign f true (b - a) c) p
+      go false = no-larger
 
-  larger : T (above more) → cond (lt less more) more less ≡ more
+  larger : cond (lt less more) more less ≡ more
   unfolding sum le
-  larger p = go (ltb a b)
+  larger = go (ltb a b)
     where
       chosen : (t : Bool) (x : Float) → (t ≡ false → x ≡ more) → cond t more x ≡ more
       chosen true x h = refl
@@ -125,21 +113,7 @@ module _ (f : Format) (a b c : ℕ) (C : 0 < c) where
 
 -- ---- the two laws
 
--- 1 + |x| is at least 1
-one-more : (a b c : ℕ) → 0 < c → c ≤ a → T (above (round binary32 false (a + b) c))
-unfolding round
-one-more a b c C h = above-of-le (decimal 1 0) (round binary32 false (a + b) c) tt (round-mono binary32 1 1 (a + b) c (lit< tt) C (omega arith))
-
-pub one-plus-abs : (x : Float) → cond (lt (decimal 1 0 ⊕ x) (decimal 1 0 ⊖ x)) (decimal 1 0 ⊖ x) (decimal 1 0 ⊕ x) ≡ decimal 1 0 ⊕ abs x
-unfolding round add sub neg lt abs
-one-plus-abs nan = refl
-one-plus-abs (inf true) = refl
-one-plus-abs (inf false) = refl
-one-plus-abs (fin false m e) = rw (more-not-lt binary32 (1 * down e) (m * up e * 1) (1 * down e) (omega (arith, down-pos e)))
-one-plus-abs (fin true m e) =
-    let D : 0 < 1 * down e = omega (arith, down-pos e) in
-    larger binary32 (1 * down e) (m * up e * 1) (1 * down e) D (one-more (1 * down e) (m * up e * 1) (1 * down e) D (le-refl _))
-
+-- below 0.5
 fin-lt : (m : ℕ) (e : ℤ) (z : Float) → m * up e * 2 < down e → T (le (decimal 5 1) z) → lt (fin false m e) z ≡ true
 unfolding round lt le
 fin-lt m e nan h l = absurd l
@@ -150,6 +124,7 @@ fin-lt m e (fin false k g) h l =
     lt-ltb (m * up e * down g) (k * up g * down e)
     (omega (arith, mul-lt-mul-of-pos-right h (down-pos g), mul-le-mul-right (down e) (at-most (1 * down g) (k * up g * 2) true l)))
 
+-- x is num / den
 module _ (m : ℕ) (e : ℤ) where
   abbrev num : ℕ
   num = m * up e * 1
@@ -160,11 +135,19 @@ module _ (m : ℕ) (e : ℤ) where
   den-pos : 0 < den
   den-pos = omega (arith, down-pos e)
 
+  -- 1 + |x| is at least 1
+  one-more : T (above (round binary32 false (den + num) den))
+  unfolding round
+  one-more = above-of-le (decimal 1 0) (round binary32 false (den + num) den) tt (round-mono binary32 1 1 (den + num) den (lit< tt) den-pos (omega arith))
+
   folds-plus : (t u : Bool) → ltb den num ≡ t → ltb (m * up e * 2) den ≡ u
       → lt (fin false m e) (cond t (round binary32 true (num - den) den) (round binary32 false (den - num) den)) ≡ u
-  unfolding isSignMinus round
+  unfolding round
   folds-plus true true p q = absurd (omega (arith, ltb-true den num p, ltb-true (m * up e * 2) den q))
-  folds-plus true false p q = plus-not-lt (fin false m e) (round binary32 true (num - den) den) refl (round-sign binary32 true (num - den) den)
+  folds-plus true false p q =
+      let h = ltb-false (m * up e * 2) den q in
+      fin-not-lt m 1 e (negsuc 0) (round binary32 true (num - den) den) (omega arith)
+      (minus-le (round binary32 true (num - den) den) (decimal 5 1) (round-sign binary32 true (num - den) den) tt)
   folds-plus false true p q =
       let h = ltb-true (m * up e * 2) den q in
       fin-lt m e (round binary32 false (den - num) den) (omega arith) (round-mono binary32 5 10 (den - num) den (lit< tt) den-pos (omega arith))
@@ -178,6 +161,13 @@ folds nan = refl
 folds (inf true) = refl
 folds (inf false) = refl
 folds (fin true m e) =
-    minus-lt (fin true m e) (decimal 1 0 ⊖ fin true m e) refl (one-more (1 * down e) (m * up e * 1) (1 * down e) (omega (arith, down-pos e)) (le-refl _))
-    ∙ sym (minus-lt (fin true m e) (decimal 5 1) refl tt)
-folds (fin false m e) = folds-plus m e (ltb (1 * down e) (m * up e * 1)) (ltb (m * up e * 2) (1 * down e)) refl refl
+    minus-lt (fin true m e) (decimal 1 0 ⊖ fin true m e) refl (one-more m e) ∙ sym (minus-lt (fin true m e) (decimal 5 1) refl tt)
+folds (fin false m e) = folds-plus m e (ltb (den m e) (num m e)) (ltb (m * up e * 2) (den m e)) refl refl
+
+pub one-plus-abs : (x : Float) → cond (lt (decimal 1 0 ⊕ x) (decimal 1 0 ⊖ x)) (decimal 1 0 ⊖ x) (decimal 1 0 ⊕ x) ≡ decimal 1 0 ⊕ abs x
+unfolding round add sub neg lt abs
+one-plus-abs nan = refl
+one-plus-abs (inf true) = refl
+one-plus-abs (inf false) = refl
+one-plus-abs (fin false m e) = rw (more-not-lt binary32 (den m e) (num m e) (den m e) (den-pos m e) (one-more m e))
+one-plus-abs (fin true m e) = larger binary32 (den m e) (num m e) (den m e) (den-pos m e) (one-more m e)

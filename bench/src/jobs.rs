@@ -23,7 +23,8 @@ const SAMPLES: usize = 16384;
 const NOISE: u32 = 33;
 const RATE: f32 = 48000.0;
 
-/// accent, f0, a, decay, c as in a cue line, and the bass's self_fm_amount. No compiler sees them: neither side is made for these alone.
+/// accent, f0, a, decay, c as in a cue line, and the bass's self_fm_amount. No compiler sees them: neither side is made for these alone, and what follows
+/// from them is worked out at each block.
 type Knobs = [f32; 6];
 const BASS: Knobs = [0.8, 0.001, 0.4, 0.6, 0.5, 0.3];
 const SNARE: Knobs = [0.8, 0.004, 0.5, 0.6, 0.5, 0.0];
@@ -64,43 +65,48 @@ fn bass_port(rate: f32, [accent, f0, tone, decay, attack_fm, self_fm]: Knobs, bl
     port::analog_bass_drum(rate, blocks, accent, f0, tone, decay, attack_fm, self_fm, out);
 }
 
-fn bass_rust(rate: f32, [accent, f0, tone, decay, attack_fm, self_fm]: Knobs, blocks: u32, out: &mut [f32]) {
-    let sustain = black_box(false);
+fn bass_rust(rate: f32, knobs: Knobs, blocks: u32, out: &mut [f32]) {
     let mut voice = AnalogBassDrum::new();
     voice.init(rate);
-    (0..blocks).for_each(|i| voice.render(sustain, i == 0, accent, f0, tone, decay, attack_fm, self_fm, out));
+    for i in 0..blocks {
+        let (sustain, [accent, f0, tone, decay, attack_fm, self_fm]) = black_box((false, knobs));
+        voice.render(sustain, i == 0, accent, f0, tone, decay, attack_fm, self_fm, out);
+    }
 }
 
 fn snare_port(rate: f32, [accent, f0, tone, decay, snappy, _]: Knobs, blocks: u32, out: &mut [f32]) {
     port::analog_snare_drum(NOISE, rate, blocks, accent, f0, tone, decay, snappy, out);
 }
 
-fn snare_rust(rate: f32, [accent, f0, tone, decay, snappy, _]: Knobs, blocks: u32, out: &mut [f32]) {
-    let sustain = black_box(false);
+fn snare_rust(rate: f32, knobs: Knobs, blocks: u32, out: &mut [f32]) {
     random::seed(NOISE);
     let mut voice = AnalogSnareDrum::new();
     voice.init(rate);
-    (0..blocks).for_each(|i| voice.render(sustain, i == 0, accent, f0, tone, decay, snappy, out));
+    for i in 0..blocks {
+        let (sustain, [accent, f0, tone, decay, snappy, _]) = black_box((false, knobs));
+        voice.render(sustain, i == 0, accent, f0, tone, decay, snappy, out);
+    }
 }
 
 fn synthetic_snare_port(rate: f32, [accent, f0, fm_amount, decay, snappy, _]: Knobs, blocks: u32, out: &mut [f32]) {
     port::synthetic_snare_drum(NOISE, rate, blocks, accent, f0, fm_amount, decay, snappy, out);
 }
 
-fn synthetic_snare_rust(rate: f32, [accent, f0, fm_amount, decay, snappy, _]: Knobs, blocks: u32, out: &mut [f32]) {
-    let sustain = black_box(false);
+fn synthetic_snare_rust(rate: f32, knobs: Knobs, blocks: u32, out: &mut [f32]) {
     random::seed(NOISE);
     let mut voice = SyntheticSnareDrum::new();
     voice.init(rate);
-    (0..blocks).for_each(|i| voice.render(sustain, i == 0, accent, f0, fm_amount, decay, snappy, out));
+    for i in 0..blocks {
+        let (sustain, [accent, f0, fm_amount, decay, snappy, _]) = black_box((false, knobs));
+        voice.render(sustain, i == 0, accent, f0, fm_amount, decay, snappy, out);
+    }
 }
 
 fn hihat_port(rate: f32, [accent, f0, tone, decay, noisiness, _]: Knobs, blocks: u32, out: &mut [f32]) {
     port::hihat(NOISE, rate, blocks, accent, f0, tone, decay, noisiness, out);
 }
 
-fn hihat_rust(rate: f32, [accent, f0, tone, decay, noisiness, _]: Knobs, blocks: u32, out: &mut [f32]) {
-    let (sustain, resonance, two_stage) = black_box((false, true, false));
+fn hihat_rust(rate: f32, knobs: Knobs, blocks: u32, out: &mut [f32]) {
     let (mut temp_1, mut temp_2) = ([0.0; SAMPLES], [0.0; SAMPLES]);
     let (temp_1, temp_2) = (&mut temp_1[..out.len()], &mut temp_2[..out.len()]);
     random::seed(NOISE);
@@ -108,6 +114,7 @@ fn hihat_rust(rate: f32, [accent, f0, tone, decay, noisiness, _]: Knobs, blocks:
     voice.init(rate);
     for i in 0..blocks {
         let (noise, vca) = (NoiseType::Square, VcaType::Swing);
+        let (sustain, resonance, two_stage, [accent, f0, tone, decay, noisiness, _]) = black_box((false, true, false, knobs));
         voice.render(sustain, i == 0, accent, f0, tone, decay, noisiness, temp_1, temp_2, out, noise, vca, resonance, two_stage);
     }
 }

@@ -4,7 +4,7 @@ mod jobs;
 use jobs::{Job, jobs};
 use std::time::Instant;
 
-const RUNS: usize = 15;
+const RUNS: usize = 31;
 /// The least length of a run, in seconds.
 const RUN: f64 = 0.02;
 

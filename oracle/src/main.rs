@@ -17,7 +17,7 @@ fn main() {
 /// SIZE 1 takes some seconds; 1024 has every pattern of 32 bits in it. Any difference gives the exit status 1.
 fn compare(size: u32) {
     let differ = numbers::compare(size)
-        + replay::compare("target/bin/replay", size * 50, 1)
+        + replay::compare("target/bin/replay", size * 60, 1)
         + sheets::compare("target/bin/cues", size * 100, 1)
         + draws::compare("target/bin/draws", size * 10, 1);
     println!("{differ} differ");

@@ -75,7 +75,12 @@ fn of_several(random: u32) -> u64 {
     // the sign of the zero that the Rust leaves open is the standard's here
     judge("minimum_number", of_pairs(), |[x, y, _]| Some(same(port::minimum_number(x, y), if opposite(x, y) { -0.0 } else { x.min(y) })))
         + judge("maximum_number", of_pairs(), |[x, y, _]| Some(same(port::maximum_number(x, y), if opposite(x, y) { 0.0 } else { x.max(y) })))
-        + judge("clamp", triples.chain(words.iter().copied()), |[x, lo, hi]| (lo <= hi).then(|| same(port::clamp(x, lo, hi), x.clamp(lo, hi))))
+        + judge("clamp", triples.chain(words.iter().copied().map(in_order)), |[x, lo, hi]| (lo <= hi).then(|| same(port::clamp(x, lo, hi), x.clamp(lo, hi))))
+}
+
+/// The bounds of a clamp in their order, so that the Rust has an answer.
+fn in_order([x, lo, hi]: [f32; 3]) -> [f32; 3] {
+    if hi < lo { [x, hi, lo] } else { [x, lo, hi] }
 }
 
 fn opposite(x: f32, y: f32) -> bool {

@@ -19,7 +19,7 @@ fn compare(size: u32) {
     let differ = numbers::compare(size)
         + replay::compare("target/bin/replay", size * 60, 1)
         + sheets::compare("target/bin/cues", size * 100, 1)
-        + draws::compare("target/bin/draws", size * 10, 1);
+        + draws::compare("target/bin/draws", size * 100, 1);
     println!("{differ} differ");
     std::process::exit(i32::from(differ != 0));
 }

@@ -1,4 +1,4 @@
-// Conversions and operations of IEEE 754-2019 on `f32`, worked out from bit patterns. Each has a
+// Conversions and operations of IEEE 754-2019 on `f32`, and its bit patterns. Each function has a
 // result for every input. The contracts know one not-a-number: where a result is one, its pattern is
 // left open.
 mod convert;

@@ -6,5 +6,4 @@ pub mod NotANumber
 mod Numbers
 pub mod Signs
 pub mod Units
-pub mod Values
 pub mod Whole

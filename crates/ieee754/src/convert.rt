@@ -4,6 +4,8 @@ ghost use mathlib.Core.Path.{_≡_};
 ghost use lib.IntN.{pos};
 ghost use lib.Ieee as Ieee;
 ghost use lib.Ieee.{binary32};
+ghost use lib.Ieee.Nearest.{closest};
+use crate::pattern::packed;
 use crate::pattern::significand;
 
 // x without its fraction, held at the ends of a `u64`: a negative x and a not-a-number give 0.
@@ -67,10 +69,28 @@ pub fn truncate_i32(x: f32) -> i32
     }
 }
 
-// The `f32` nearest to n; where two are as near, the one whose last digit is even. Both halves of n, and
-// the upper one in its place, are values of the format: only the sum is rounded.
+// n / 256 rounded to the nearest whole number, a tie to the even one.
+fn without_last_byte(n: u32) -> u32
+    ensures { λ r. ⌜ r ≡ closest n 256 ⌝ }
+{
+    let kept: u32 = n >> 8;
+    let rest: u32 = n & 0xff;
+    // up from above the half, and from the half itself if kept is odd
+    if rest + (kept & 1) > 128 {
+        kept + 1
+    } else {
+        kept
+    }
+}
+
+// The `f32` nearest to n; where two are as near, the one whose last digit is even.
 pub fn nearest_f32(n: u32) -> f32
     ensures { λ r. ⌜ r ≡ Ieee.ofInt binary32 (pos n) ⌝ }
 {
-    ((n >> 16) as f32) * 65536.0 + ((n & 0xffff) as f32)
+    if n == 0 {
+        return 0.0;
+    }
+    // with the leading digit moved to bit 31, the upper 24 digits are kept
+    let zeros: u32 = u32::leading_zeros(n);
+    packed(157 - zeros, without_last_byte(n << zeros))
 }

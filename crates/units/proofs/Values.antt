@@ -1,13 +1,15 @@
--- Differences from a whole number, and the sign of what has a minus sign. Assumes nothing.
+-- Differences and products of values that are known as fractions, zero included, and the sign of those that have a minus sign. Assumes nothing.
 use mathlib.Core.Path.{_≡_, refl, sym, ap, _∙_}
 use mathlib.Core.Bool.{Bool, true, false, cond, true≢false}
 use Prim.Native.Nat.{ℕ, _+_, _-_, _*_, _^_, _≤_, _<_}
-use native.Mathlib.Nat.{not-le-of-lt, mul-comm, mul-assoc, mul-left-comm, mul-right-comm, mul-one, mul-sub, mul-pos, mul-le-mul-right}
+use native.Mathlib.Nat.{lt-of-lt-of-le, not-le-of-lt, mul-comm, mul-assoc, mul-left-comm, mul-right-comm, mul-mul-mul-comm, mul-one, mul-sub, mul-pos, mul-le-mul-right}
+use native.Mathlib.Omega.{arith}
 use lib.Dec.{T, ltb, ltb→lt}
 use lib.IntN.{ℤ, pos}
+use lib.Pow.{pow-add, pow-mono, shl-lt}
 use lib.Ieee.{Float, nan, inf, fin, Format, binary32, up, down, round, sum, sub, mul, ofInt}
 use lib.Ieee.Fits.{down-pos}
-use lib.Ieee.Exact.{HasValue}
+use lib.Ieee.Exact.{HasValue, round-exact}
 use lib.Ieee.Scale.{round-same}
 use Rattle.ieee754.specs.Operations.{isSignMinus}
 use Rattle.ieee754.proofs.Signs.{round-sign}
@@ -37,6 +39,25 @@ less-whole f m e (fin false n d) i v h =
     ∙ sum-is f (m * up e * down d) (i * down e * down d) (down e * down d) (mul-le-mul-right (down d) h)
     ∙ round-same f false (m * up e * down d - i * down e * down d) (down e * down d) (m * up e - i * down e) (down e) (mul-pos (down-pos e) (down-pos d)) (down-pos e)
     (spread (m * up e) (i * down e) (down e) (down d))
+
+-- ---- a / c times b / d
+pub product : (f : Format) (x y : Float) (a c b d : ℕ) → 0 < c → 0 < d → HasValue x false a c → HasValue y false b d → mul f x y ≡ round f false (a * b) (c * d)
+unfolding mul
+product f nan y a c b d C D h k = absurd h
+product f (inf s) y a c b d C D h k = absurd h
+product f (fin true m e) y a c b d C D h k = absurd (true≢false (h .0))
+product f (fin false m e) nan a c b d C D h k = absurd k
+product f (fin false m e) (inf s) a c b d C D h k = absurd k
+product f (fin false m e) (fin true n g) a c b d C D h k = absurd (true≢false (k .0))
+product f (fin false m e) (fin false n g) a c b d C D h k =
+    round-same f false (m * up e * (n * up g)) (down e * down g) (a * b) (c * d) (mul-pos (down-pos e) (down-pos g)) (mul-pos C D)
+    (mul-mul-mul-comm (m * up e) (n * up g) c d ∙ rw (h .1, k .1) (mul-mul-mul-comm a (down e) b (down g)))
+
+-- ---- r * 2 ^ k / c, where r has at most 24 digits and c divides 2 ^ 149, is a value of single precision
+pub exact : (r k c j : ℕ) → 0 < c → r < 2 ^ 24 → j + k ≤ 200 → 2 ^ j * c ≡ 2 ^ 149 → HasValue (round binary32 false (r * 2 ^ k) c) false (r * 2 ^ k) c
+exact r k c j C R J goes =
+    round-exact binary32 false (r * 2 ^ k) c r (j + k) C R (lt-of-lt-of-le (shl-lt 24 (j + k) R) (pow-mono {i = 24 + (j + k)} {j = 277} (omega arith)))
+    (ap (λ (z : ℕ). r * 2 ^ k * z) (sym goes) ∙ simp (pow-add, mul-assoc, mul-comm, mul-left-comm))
 
 -- ---- a minus sign stays
 

@@ -1,51 +1,62 @@
 -- `ieee754::nearest_f32` meets its contract. Assumes nothing.
-use mathlib.Core.Path.{_≡_, refl, ap, _∙_}
-use mathlib.Core.Bool.{false}
-use Prim.Native.Nat.{ℕ, _+_, _*_, _/_, _%_, _^_, _<_}
+use borrow.Author.Needs.{needs}
+use mathlib.Core.Path.{_≡_, sym}
+use Prim.Native.Nat.{ℕ, suc, _+_, _-_, _*_, _/_, _%_, _^_, _≤_, _<_, compare}
+use native.Mathlib.Nat.{mod-eq-of-lt}
 use native.Mathlib.Omega.{arith}
-use lib.Bits.{and-mask}
-use lib.Dec.{T, le→leb, lit<}
-use lib.IntN.{pos}
-use lib.Ieee.{Float, binary32, ofBits, ofInt, inFloat, add, mul, round}
-use lib.Ieee.Back.{round-whole}
-use lib.Ieee.Exact.{HasValue}
-use Rattle.ieee754.proofs.Values.{plus, product, exact}
+use lib.Count.{leadingZeros, leading-top}
+use lib.Dec.{lit≤}
+use lib.Ieee.{binary32, ofBits, ofInt, nearest}
+use lib.Ieee.Fits.{nearest-le}
+use lib.Ieee.Nearest.{nearest-ge}
+use Rattle.ieee754.proofs.Numbers.{shifted}
+use Rattle.ieee754.proofs.convert.Rounding.{ofInt-packed}
 use Rattle.ieee754.proofs.convert.nearest_f32.Statement.{statement}
 use Rattle.ieee754.proofs.convert.nearest_f32.Tie as tie
 
--- a half has at most 24 digits
-small : (h : ℕ) → h < 2 ^ 16 → T (inFloat binary32 (pos h))
-unfolding inFloat
-small h l = le→leb h (2 ^ 24) (omega arith)
+-- the leading digit of n, and n with it moved to bit 31
+module _ (c : tie.Else1) where
+  abbrev n : ℕ
+  n = c .before .args .n
 
--- 65536.0
-abbrev place : Float
-place = ofBits binary32 1199570944
+  abbrev z : ℕ
+  z = leadingZeros 32 n
 
--- the upper half in its place, and then the sum
-module _ (n : ℕ) (l : n < 2 ^ 32) where
-  upper : HasValue (mul binary32 (ofInt binary32 (pos (n / 65536))) place) false (n / 65536 * 2 ^ 16) 1
-  unfolding ofInt ofBits
-  upper =
-      rw (product binary32 (ofInt binary32 (pos (n / 65536))) place (n / 65536) 1 (2 ^ 16) 1 (lit< tt) (lit< tt) (round-whole binary32 false (n / 65536) (omega arith)) (refl, refl))
-      (exact (n / 65536) 16 1 149 (lit< tt) (omega arith) (omega arith) refl)
+  lead : (j : ℕ) × (z + suc j ≡ 32) × (2 ^ j ≤ n) × (n < 2 ^ suc j)
+  lead = leading-top 32 n (omega (arith, c .if1 .left)) (c .before .fits .n .fits)
 
-  halves : add binary32 (mul binary32 (ofInt binary32 (pos (n / 65536))) place) (ofInt binary32 (pos (n % 65536))) ≡ ofInt binary32 (pos n)
-  unfolding ofInt
-  halves =
-      let parted : n / 65536 * 2 ^ 16 * 1 + n % 65536 * 1 ≡ n = omega arith in
-      plus binary32 (mul binary32 (ofInt binary32 (pos (n / 65536))) place) (ofInt binary32 (pos (n % 65536))) (n / 65536 * 2 ^ 16) 1 (n % 65536) 1 (lit< tt) (lit< tt) upper
-      (round-whole binary32 false (n % 65536) (omega arith))
-      ∙ ap (λ (k : ℕ). round binary32 false k 1) parted
+  moved : (2 ^ 31 ≤ n * 2 ^ z) × (n * 2 ^ z < 2 ^ 32)
+  moved = let p : lead .0 + z ≡ 31 = omega (arith, lead .1) in rw p at (shifted (lead .0) n z (lead .2) (lead .3))
 
-int-to-float-result : tie.Need-int-to-float-result
-int-to-float-result c = small _ (omega (arith, c .before .fits .n .fits))
-
-int-to-float-result-2 : tie.Need-int-to-float-result-2
-int-to-float-result-2 c = rw (and-mask _ 16) (small _ (omega arith))
+  whole : n * 2 ^ z % 2 ^ 32 ≡ n * 2 ^ z
+  whole = mod-eq-of-lt (moved .1)
 
 returns : tie.Need-returns
-returns c = rw (and-mask _ 16) (halves (c .before .before .args .n) (c .before .before .fits .n .fits))
+unfolding ofBits ofInt
+returns c = rw (c .if1 .taken)
+
+sub-packed : tie.Need-sub-packed
+sub-packed c = omega (arith, lead c .1)
+
+shl-without-last-byte : tie.Need-shl-without-last-byte
+shl-without-last-byte c = omega (arith, lead c .1)
+
+without-last-byte-requires : tie.Need-without-last-byte-requires
+without-last-byte-requires c κs = search needs
+
+packed-requires : tie.Need-packed-requires
+packed-requires c κs =
+    let m = n (c .before) * 2 ^ z (c .before) in
+    let o = compare (m % 256 * 2) 256 in
+    let is : c .without-last-byte .result ≡ nearest (m / 256) o = rw (whole (c .before)) at (c .without-last-byte .ensures) in
+    omega (arith, is, moved (c .before), nearest-ge (m / 256) o, nearest-le (m / 256) o)
+
+returns-2 : tie.Need-returns-2
+returns-2 c =
+    let b = c .before .before in
+    let place : 157 - z b ≡ suc (lead b .0) + 149 - 24 = omega (arith, lead b .1) in
+    rw (c .packed .ensures, c .before .without-last-byte .ensures, whole b, place)
+    (sym (ofInt-packed binary32 32 (z b) (lead b .0) (n b) (lit≤ tt) (lead b .1) (lead b .2) (lead b .3)))
 
 pub nearest-f32-spec : {M : Type 1} → statement M
-nearest-f32-spec = tie.close (tie.spec int-to-float-result int-to-float-result-2 returns)
+nearest-f32-spec = tie.close (tie.spec returns sub-packed shl-without-last-byte without-last-byte-requires packed-requires returns-2)

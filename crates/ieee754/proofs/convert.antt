@@ -1,0 +1,2 @@
+-- The laws of rounding.
+mod Rounding

@@ -5,8 +5,8 @@ use mathlib.Core.Bool.{Bool, true}
 use Rattle.analog_snare_drum.specs.declared.AnalogSnareDrum.{AnalogSnareDrum}
 use Rattle.analog_snare_drum.specs.declared.Excitation.{Excitation}
 use Rattle.analog_snare_drum.specs.declared.Settings.{Settings}
-use Rattle.analog_snare_drum.specs.AnalogSnareDrum.{step}
-use Rattle.analog_snare_drum.specs.Excitation.{excitation, AtRest}
+use Rattle.analog_snare_drum.specs.AnalogSnareDrum.{excitation, step}
+use Rattle.analog_snare_drum.specs.Excitation.{AtRest}
 
 -- what the loop knows of e and of its flag
 pub record Kept (v : AnalogSnareDrum) (e : Excitation) (flag : Bool) : Type 0 where

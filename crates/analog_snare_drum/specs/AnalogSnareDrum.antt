@@ -18,6 +18,7 @@ use Rattle.filter.specs.declared.FilterMode.the-variants.{BandPass}
 use Rattle.filter.specs.declared.FrequencyApproximation.the-variants.{Fast}
 use Rattle.trigger_pulse.specs.TriggerPulse as TriggerPulse
 use Rattle.analog_snare_drum.specs.declared.AnalogSnareDrum.{AnalogSnareDrum}
+use Rattle.analog_snare_drum.specs.declared.Excitation.{Excitation}
 use Rattle.analog_snare_drum.specs.declared.Settings.{Settings}
 use Rattle.analog_snare_drum.specs.declared.Sounding.{Sounding}
 use Rattle.analog_snare_drum.specs.declared.Step.{Step}
@@ -173,19 +174,31 @@ noiseOutput s noiseEnvelope noiseFilter state =
     let o = Filter.process noiseFilter (noise ⊗ (noiseEnvelope′ ⊗ s .snappy ⊗ decimal 2 0)) BandPass in
     record { state = draw .word; «noise_envelope» = noiseEnvelope′; «noise_filter» = o .filter; noise = o .out }
 
-unfoldable pub step : Settings → AnalogSnareDrum → ℕ → Step
-step s v noise =
+-- the pulse, its low-pass, and what excites the first mode and the others
+unfoldable pub excitation : AnalogSnareDrum → Excitation
+excitation v =
     let p = TriggerPulse.next (v .«pulse_remaining_samples») (v .pulse) (v .«pulse_height») (ofInt binary32 (pos (v .«pulse_decay_time»))) in
     let pulse = p .pulse in
     let pulseLp = onePole (v .«pulse_lp») pulse (decimal 75 2) in
-    let shell = shellOutput s (v .resonator) (pulse ⊖ pulseLp ⊕ decimal 6 3 ⊗ pulse) (decimal 26 3 ⊗ pulse) in
+    record {
+      «remaining_samples» = p .«remaining_samples»;
+      pulse = pulse;
+      «pulse_lp» = pulseLp;
+      first = pulse ⊖ pulseLp ⊕ decimal 6 3 ⊗ pulse;
+      other = decimal 26 3 ⊗ pulse;
+    }
+
+unfoldable pub step : Settings → AnalogSnareDrum → ℕ → Step
+step s v noise =
+    let e = excitation v in
+    let shell = shellOutput s (v .resonator) (e .first) (e .other) in
     let n = noiseOutput s (v .«noise_envelope») (v .«noise_filter») noise in
     record {
       voice = record {
-        «pulse_remaining_samples» = p .«remaining_samples»;
-        pulse = pulse;
+        «pulse_remaining_samples» = e .«remaining_samples»;
+        pulse = e .pulse;
         «pulse_height» = v .«pulse_height»;
-        «pulse_lp» = pulseLp;
+        «pulse_lp» = e .«pulse_lp»;
         «noise_envelope» = n .«noise_envelope»;
         resonator = shell .resonator;
         «noise_filter» = n .«noise_filter»;

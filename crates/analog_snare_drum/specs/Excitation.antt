@@ -1,25 +1,7 @@
--- The part of a turn that comes to rest, for the functions that keep it: the lines of `step` before its shell. Definitions only.
+-- When an excitation is at rest. Definitions only.
 use mathlib.Core.Path.{_≡_}
-use lib.IntN.{pos}
-use lib.Ieee.{binary32, ofInt}
-use Rattle.ieee754.specs.Single.{_⊕_, _⊖_, _⊗_, decimal}
-use Rattle.utils.specs.Utils.{onePole}
-use Rattle.trigger_pulse.specs.TriggerPulse as TriggerPulse
 use Rattle.analog_snare_drum.specs.declared.AnalogSnareDrum.{AnalogSnareDrum}
 use Rattle.analog_snare_drum.specs.declared.Excitation.{Excitation}
-
-unfoldable pub excitation : AnalogSnareDrum → Excitation
-excitation v =
-    let p = TriggerPulse.next (v .«pulse_remaining_samples») (v .pulse) (v .«pulse_height») (ofInt binary32 (pos (v .«pulse_decay_time»))) in
-    let pulse = p .pulse in
-    let pulseLp = onePole (v .«pulse_lp») pulse (decimal 75 2) in
-    record {
-      «remaining_samples» = p .«remaining_samples»;
-      pulse = pulse;
-      «pulse_lp» = pulseLp;
-      first = pulse ⊖ pulseLp ⊕ decimal 6 3 ⊗ pulse;
-      other = decimal 26 3 ⊗ pulse;
-    }
 
 -- e leaves the pulse and its low-pass as they are in v
 pub record AtRest (v : AnalogSnareDrum) (e : Excitation) : Type 0 where

@@ -5,7 +5,7 @@ ghost use lib.ListN.{length};
 ghost use Rattle.refusal.specs.Refusal.{answerNumber, KnobIn};
 ghost use Rattle.block.specs.Block.{samples, after};
 ghost use Rattle.analog_snare_drum.specs.AnalogSnareDrum as spec;
-ghost use Rattle.analog_snare_drum.specs.Excitation.{excitation, AtRest};
+ghost use Rattle.analog_snare_drum.specs.Excitation.{AtRest};
 use filter::FilterMode;
 use filter::FrequencyApproximation;
 use filter::Svf;
@@ -232,7 +232,7 @@ impl AnalogSnareDrum {
 
     // What the next turn of the loop makes of the pulse.
     fn excitation(self) -> Excitation
-        ensures { λ r. ⌜ r ≡ excitation self ⌝ }
+        ensures { λ r. ⌜ r ≡ spec.excitation self ⌝ }
     {
         // Q45 / Q46
         let trigger_pulse = TriggerPulse {
@@ -269,7 +269,7 @@ impl AnalogSnareDrum {
 
     // One turn of the loop.
     fn step(self, noise: u32, settings: Settings, e: Excitation) -> Step
-        requires { ⌜ e ≡ excitation self ⌝ }
+        requires { ⌜ e ≡ spec.excitation self ⌝ }
         ensures { λ r. ⌜ r ≡ spec.step settings self noise ⌝ }
     {
         let s = self.shell_output(settings, e.first, e.other);

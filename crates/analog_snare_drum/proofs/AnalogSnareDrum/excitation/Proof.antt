@@ -1,7 +1,7 @@
 -- `analog_snare_drum::AnalogSnareDrum::excitation` meets its contract. Assumes nothing.
 use borrow.Author.Needs.{needs}
 use lib.Ieee.{round, ofBits}
-use Rattle.analog_snare_drum.specs.Excitation.{excitation}
+use Rattle.analog_snare_drum.specs.AnalogSnareDrum.{excitation}
 use Rattle.analog_snare_drum.proofs.AnalogSnareDrum.excitation.Statement.{statement}
 use Rattle.analog_snare_drum.proofs.AnalogSnareDrum.excitation.Tie as tie
 

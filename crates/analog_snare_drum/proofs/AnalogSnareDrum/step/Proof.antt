@@ -2,7 +2,6 @@
 use borrow.Author.Needs.{needs}
 use lib.Ieee.{round, ofBits}
 use Rattle.analog_snare_drum.specs.AnalogSnareDrum.{step}
-use Rattle.analog_snare_drum.specs.Excitation.{excitation}
 use Rattle.analog_snare_drum.proofs.AnalogSnareDrum.step.Statement.{statement}
 use Rattle.analog_snare_drum.proofs.AnalogSnareDrum.step.Tie as tie
 
@@ -13,7 +12,7 @@ noise-output-requires : tie.Need-noise-output-requires
 noise-output-requires c κs = search needs
 
 returns : tie.Need-returns
-unfolding step excitation round ofBits
+unfolding step round ofBits
 returns c =
     let c₁ = c .before .before .before .before .before in
     let c₂ = c₁ .before in

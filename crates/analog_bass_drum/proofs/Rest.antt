@@ -2,8 +2,8 @@
 use mathlib.Core.Path.{_≡_, refl, _∙_}
 use Prim.Native.Nat.{ℕ, zero, suc}
 use lib.Ieee.{Float}
-use Rattle.analog_bass_drum.specs.AnalogBassDrum.{fmPulse, step}
-use Rattle.analog_bass_drum.specs.Excitation.{excitation, AtRest}
+use Rattle.analog_bass_drum.specs.AnalogBassDrum.{fmPulse, excitation, step}
+use Rattle.analog_bass_drum.specs.Rest.{AtRest}
 use Rattle.analog_bass_drum.specs.declared.AnalogBassDrum.{AnalogBassDrum}
 use Rattle.analog_bass_drum.specs.declared.Settings.{Settings}
 use Rattle.analog_bass_drum.specs.declared.Excitation.{Excitation}
@@ -28,7 +28,7 @@ alike : (b : Settings) (v w : AnalogBassDrum) → v .«pulse_remaining_samples»
     → v .«fm_pulse_remaining_samples» ≡ w .«fm_pulse_remaining_samples» → v .pulse ≡ w .pulse → v .«pulse_lp» ≡ w .«pulse_lp»
     → v .«fm_pulse_lp» ≡ w .«fm_pulse_lp» → v .«pulse_height» ≡ w .«pulse_height» → v .«pulse_decay_time» ≡ w .«pulse_decay_time»
     → v .«pulse_filter_time» ≡ w .«pulse_filter_time» → excitation b v ≡ excitation b w
-unfolding excitation step
+unfolding excitation
 alike b v w n k p l m h d f =
     let r = v .«retrig_pulse» in
     let t = v .«retrig_pulse_duration» in

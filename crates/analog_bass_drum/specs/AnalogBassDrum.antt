@@ -18,6 +18,7 @@ use Rattle.trigger_pulse.specs.TriggerPulse as TriggerPulse
 use Rattle.analog_bass_drum.specs.declared.AnalogBassDrum.{AnalogBassDrum}
 use Rattle.analog_bass_drum.specs.declared.Settings.{Settings}
 use Rattle.analog_bass_drum.specs.declared.FmPulse.{FmPulse}
+use Rattle.analog_bass_drum.specs.declared.Excitation.{Excitation}
 
 unfoldable pub diode : Float → Float
 diode x =
@@ -101,33 +102,54 @@ fmPulse zero retrigPulse retrigPulseDuration =
 fmPulse (suc n) retrigPulse retrigPulseDuration =
     record { «remaining_samples» = n; «fm_pulse» = decimal 1 0; «retrig_pulse» = cond (eqb n 0) (neg (decimal 8 1)) (decimal 0 0) }
 
-unfoldable pub frequency : Settings → Float → Float → Float
-frequency b fmPulseLp lpOut =
-    let punch = decimal 7 1 ⊕ diode (decimal 10 0 ⊗ lpOut ⊖ decimal 1 0) in
-    let attackFm = fmPulseLp ⊗ decimal 17 1 ⊗ b .«attack_fm_amount» in
-    let selfFm = punch ⊗ decimal 8 2 ⊗ b .«self_fm_amount» in
-    clamp (b .f0 ⊗ (decimal 1 0 ⊕ attackFm ⊕ selfFm)) (decimal 0 0) (decimal 4 1)
+-- `fm_pulse` of the voice
+abbrev pub fmPulseOf : AnalogBassDrum → FmPulse
+fmPulseOf v = fmPulse (v .«fm_pulse_remaining_samples») (v .«retrig_pulse») (v .«retrig_pulse_duration»)
 
-unfoldable pub step : Settings → AnalogBassDrum → AnalogBassDrum
-step b v =
+-- the pulses, their low-passes, and what is made of them alone: `pulse` past the diode, its leak into the tone filter, and `1.0 + attack_fm`
+unfoldable pub excitation : Settings → AnalogBassDrum → Excitation
+excitation b v =
     let p = TriggerPulse.next (v .«pulse_remaining_samples») (v .pulse) (v .«pulse_height») (v .«pulse_decay_time») in
     let pulseLp = onePole (v .«pulse_lp») (p .pulse) (decimal 1 0 ⊘ v .«pulse_filter_time») in
     let pulse = diode (p .pulse ⊖ pulseLp ⊕ p .pulse ⊗ decimal 44 3) in
-    let m = fmPulse (v .«fm_pulse_remaining_samples») (v .«retrig_pulse») (v .«retrig_pulse_duration») in
+    let m = fmPulseOf v in
     let fmPulseLp = onePole (v .«fm_pulse_lp») (m .«fm_pulse») (decimal 1 0 ⊘ v .«pulse_filter_time») in
-    let f = frequency b fmPulseLp (v .«lp_out») in
-    let tuned = Svf.setFQ (v .resonator) f (decimal 1 0 ⊕ b .q ⊗ f) Dirty in
-    let d = Svf.processDual tuned ((pulse ⊖ m .«retrig_pulse» ⊗ decimal 2 1) ⊗ b .scale) BandPass LowPass in
+    let attackFm = fmPulseLp ⊗ decimal 17 1 ⊗ b .«attack_fm_amount» in
     record {
       «pulse_remaining_samples» = p .«remaining_samples»;
       «fm_pulse_remaining_samples» = m .«remaining_samples»;
       pulse = p .pulse;
-      «pulse_height» = v .«pulse_height»;
       «pulse_lp» = pulseLp;
       «fm_pulse_lp» = fmPulseLp;
+      rectified = pulse;
+      leak = pulse ⊗ b .«exciter_leak»;
+      attack = decimal 1 0 ⊕ attackFm;
+    }
+
+-- `(f0 * (1.0 + attack_fm + self_fm)).clamp(0.0, 0.4)`
+unfoldable pub frequency : Settings → Float → Float → Float
+frequency b attack lpOut =
+    let punch = decimal 7 1 ⊕ diode (decimal 10 0 ⊗ lpOut ⊖ decimal 1 0) in
+    let selfFm = punch ⊗ decimal 8 2 ⊗ b .«self_fm_amount» in
+    clamp (b .f0 ⊗ (attack ⊕ selfFm)) (decimal 0 0) (decimal 4 1)
+
+unfoldable pub step : Settings → AnalogBassDrum → AnalogBassDrum
+step b v =
+    let e = excitation b v in
+    let m = fmPulseOf v in
+    let f = frequency b (e .attack) (v .«lp_out») in
+    let tuned = Svf.setFQ (v .resonator) f (decimal 1 0 ⊕ b .q ⊗ f) Dirty in
+    let d = Svf.processDual tuned ((e .rectified ⊖ m .«retrig_pulse» ⊗ decimal 2 1) ⊗ b .scale) BandPass LowPass in
+    record {
+      «pulse_remaining_samples» = e .«pulse_remaining_samples»;
+      «fm_pulse_remaining_samples» = e .«fm_pulse_remaining_samples»;
+      pulse = e .pulse;
+      «pulse_height» = v .«pulse_height»;
+      «pulse_lp» = e .«pulse_lp»;
+      «fm_pulse_lp» = e .«fm_pulse_lp»;
       «retrig_pulse» = m .«retrig_pulse»;
       «lp_out» = d .out_2;
-      «tone_lp» = onePole (v .«tone_lp») (pulse ⊗ b .«exciter_leak» ⊕ d .out_1) (b .«tone_f»);
+      «tone_lp» = onePole (v .«tone_lp») (e .leak ⊕ d .out_1) (b .«tone_f»);
       resonator = d .filter;
       «trigger_pulse_duration» = v .«trigger_pulse_duration»;
       «fm_pulse_duration» = v .«fm_pulse_duration»;

@@ -1,2 +1,2 @@
 pub mod AnalogBassDrum
-pub mod Excitation
+pub mod Rest

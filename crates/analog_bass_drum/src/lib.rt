@@ -4,9 +4,8 @@ ghost use mathlib.Core.Bool.{true};
 ghost use lib.ListN.{length};
 ghost use Rattle.refusal.specs.Refusal.{answerNumber, KnobIn};
 ghost use Rattle.block.specs.Block.{samples, after};
-ghost use Rattle.ieee754.specs.Single.{_⊕_, _⊗_, decimal};
 ghost use Rattle.analog_bass_drum.specs.AnalogBassDrum as spec;
-ghost use Rattle.analog_bass_drum.specs.Excitation.{excitation, AtRest};
+ghost use Rattle.analog_bass_drum.specs.Rest.{AtRest};
 use filter::FilterMode;
 use filter::FrequencyApproximation;
 use filter::Svf;
@@ -180,7 +179,7 @@ impl AnalogBassDrum {
         ensures block { λ _. ⌜ now (out .exit) ≡ samples (spec.turn settings) (length (now (out .entry))) self ⌝ }
     {
         let mut voice = self;
-        // The pulses end in subnormals that no turn changes. Products of these are slow: they are not computed again.
+        // The pulses come to rest, at most rates in subnormals. Products of these are slow: they are not computed again.
         let mut e = self.excitation(settings);
         let mut at_rest = self.is_at_rest(e);
         let mut i = 0;
@@ -198,7 +197,7 @@ impl AnalogBassDrum {
 
     // The parts of a turn of the loop that come to rest.
     fn excitation(self, settings: Settings) -> Excitation
-        ensures { λ r. ⌜ r ≡ excitation settings self ⌝ }
+        ensures { λ r. ⌜ r ≡ spec.excitation settings self ⌝ }
     {
         // Q39 / Q40
         let trigger_pulse = TriggerPulse {
@@ -253,11 +252,11 @@ impl AnalogBassDrum {
 
     // What is left of the turn. The sample is tone_lp.
     fn step(self, settings: Settings, e: Excitation) -> Self
-        requires { ⌜ e ≡ excitation settings self ⌝ }
+        requires { ⌜ e ≡ spec.excitation settings self ⌝ }
         ensures { λ r. ⌜ r ≡ spec.step settings self ⌝ }
     {
         let m = self.fm_pulse();
-        let f = frequency(settings, e, self.lp_out);
+        let f = frequency(settings, e.attack, self.lp_out);
         let tuned = self.resonator
             .set_f_q(f, 1.0 + settings.q * f, FrequencyApproximation::Dirty);
         let d = tuned.process_dual(
@@ -288,7 +287,7 @@ impl AnalogBassDrum {
 
     // Q41 / Q42, C39 / C52, C39 / R161
     fn fm_pulse(self) -> FmPulse
-        ensures { λ r. ⌜ r ≡ spec.fmPulse (self .«fm_pulse_remaining_samples») (self .«retrig_pulse») (self .«retrig_pulse_duration») ⌝ }
+        ensures { λ r. ⌜ r ≡ spec.fmPulseOf self ⌝ }
     {
         if self.fm_pulse_remaining_samples == 0 {
             return FmPulse {
@@ -359,12 +358,11 @@ impl Settings {
 }
 
 // The resonator's frequency.
-fn frequency(settings: Settings, e: Excitation, lp_out: f32) -> f32
-    requires { ⌜ e .attack ≡ decimal 1 0 ⊕ e .«fm_pulse_lp» ⊗ decimal 17 1 ⊗ settings .«attack_fm_amount» ⌝ }
-    ensures { λ r. ⌜ r ≡ spec.frequency settings (e .«fm_pulse_lp») «lp_out» ⌝ }
+fn frequency(settings: Settings, attack: f32, lp_out: f32) -> f32
+    ensures { λ r. ⌜ r ≡ spec.frequency settings attack «lp_out» ⌝ }
 {
     // Q43 and R170 leakage
     let punch = 0.7 + diode(10.0 * lp_out - 1.0);
     let self_fm = punch * 0.08 * settings.self_fm_amount;
-    ieee754::clamp(settings.f0 * (e.attack + self_fm), 0.0, 0.4)
+    ieee754::clamp(settings.f0 * (attack + self_fm), 0.0, 0.4)
 }

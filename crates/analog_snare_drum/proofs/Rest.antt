@@ -6,7 +6,7 @@ use Rattle.analog_snare_drum.specs.declared.AnalogSnareDrum.{AnalogSnare
 use Rattle.analog_snare_drum.specs.declared.Excitation.{Excitation}
 use Rattle.analog_snare_drum.specs.declared.Settings.{Settings}
 use Rattle.analog_snare_drum.specs.AnalogSnareDrum.{excitation, step}
-use Rattle.analog_snare_drum.specs.Excitation.{AtRest}
+use Rattle.analog_snare_drum.specs.Rest.{AtRest}
 
 -- what the loop knows of e and of its flag
 pub record Kept (v : AnalogSnareDrum) (e : Excitation) (flag : Bool) : Type 0 where

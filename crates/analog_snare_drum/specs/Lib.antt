@@ -1,2 +1,2 @@
 pub mod AnalogSnareDrum
-pub mod Excitation
+pub mod Rest

@@ -5,7 +5,7 @@ ghost use lib.ListN.{length};
 ghost use Rattle.refusal.specs.Refusal.{answerNumber, KnobIn};
 ghost use Rattle.block.specs.Block.{samples, after};
 ghost use Rattle.analog_snare_drum.specs.AnalogSnareDrum as spec;
-ghost use Rattle.analog_snare_drum.specs.Excitation.{AtRest};
+ghost use Rattle.analog_snare_drum.specs.Rest.{AtRest};
 use filter::FilterMode;
 use filter::FrequencyApproximation;
 use filter::Svf;
@@ -150,7 +150,7 @@ impl AnalogSnareDrum {
     ) -> Rendered
         ensures answer { λ r. ⌜ answerNumber (r .answer) ≡ spec.renderRefusal (length (now (out .entry))) accent f0 tone decay snappy ⌝ }
         ensures voice { λ r. ⌜ r .voice ≡ spec.render self noise trigger accent f0 tone decay snappy (length (now (out .entry))) .voice ⌝ }
-        ensures state { λ r. ⌜ r .noise ≡ spec.render self noise trigger accent f0 tone decay snappy (length (now (out .entry))) .noise ⌝ }
+        ensures noise { λ r. ⌜ r .noise ≡ spec.render self noise trigger accent f0 tone decay snappy (length (now (out .entry))) .noise ⌝ }
         ensures block { λ _. ⌜ now (out .exit) ≡ spec.renderOut self noise trigger accent f0 tone decay snappy (now (out .entry)) ⌝ }
     {
         let answer = asked(out.len(), accent, f0, tone, decay, snappy);
@@ -209,8 +209,8 @@ impl AnalogSnareDrum {
         let mut voice = self;
         let mut state = noise;
         let mut e = voice.excitation();
-        // The pulse decays to a subnormal that its product rounds back to itself. From then on no
-        // turn changes the excitation, and products of subnormals are slow: e is kept.
+        // The pulse comes to rest, at most rates in a subnormal that its product rounds back to itself.
+        // From then on no turn changes the excitation, and products of subnormals are slow: e is kept.
         let mut at_rest = voice.is_at_rest(e);
         let mut i = 0;
         while i < out.len() {

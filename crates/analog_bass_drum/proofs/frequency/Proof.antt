@@ -14,8 +14,7 @@ clamp-requires c κs = search needs
 returns : tie.Need-returns
 unfolding frequency round ofBits
 returns c =
-    let d = c .before .before .before .before in
-    rw (c .clamp .ensures, d .diode .ensures, d .before .pre)
+    rw (c .clamp .ensures, c .before .before .before .diode .ensures)
 
 pub frequency-spec : {M : Type 1} → statement M
 frequency-spec = tie.close (tie.spec diode-requires clamp-requires returns)

@@ -1,8 +1,7 @@
 -- `analog_bass_drum::AnalogBassDrum::excitation` meets its contract: the last call first. Assumes nothing.
 use borrow.Author.Needs.{needs}
 use lib.Ieee.{round, ofBits}
-use Rattle.analog_bass_drum.specs.AnalogBassDrum.{step}
-use Rattle.analog_bass_drum.specs.Excitation.{excitation}
+use Rattle.analog_bass_drum.specs.AnalogBassDrum.{excitation}
 use Rattle.analog_bass_drum.proofs.AnalogBassDrum.excitation.Statement.{statement}
 use Rattle.analog_bass_drum.proofs.AnalogBassDrum.excitation.Tie as tie
 
@@ -22,7 +21,7 @@ one-pole-requires-2 : tie.Need-one-pole-requires-2
 one-pole-requires-2 c κs = search needs
 
 returns : tie.Need-returns
-unfolding excitation step round ofBits
+unfolding excitation round ofBits
 returns c =
     let c₁ = c .before .before in
     let c₂ = c₁ .before .before in

@@ -10,8 +10,8 @@ use lib.ListN.{length, length-set}
 use Rattle.block.specs.Block.{source}
 use Rattle.block.proofs.Blocks.{Going, begin, end-source}
 use Rattle.block.proofs.Blocks.{turn as going}
-use Rattle.analog_bass_drum.specs.AnalogBassDrum.{turn}
-use Rattle.analog_bass_drum.specs.Excitation.{excitation, AtRest}
+use Rattle.analog_bass_drum.specs.AnalogBassDrum.{excitation, turn}
+use Rattle.analog_bass_drum.specs.Rest.{AtRest}
 use Rattle.analog_bass_drum.proofs.Rest.{Held, held}
 use Rattle.analog_bass_drum.proofs.AnalogBassDrum.run.Statement.{statement}
 use Rattle.analog_bass_drum.proofs.AnalogBassDrum.run.Tie as tie

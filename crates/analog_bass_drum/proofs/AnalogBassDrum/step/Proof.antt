@@ -2,7 +2,6 @@
 use borrow.Author.Needs.{needs}
 use lib.Ieee.{round, ofBits}
 use Rattle.analog_bass_drum.specs.AnalogBassDrum.{step}
-use Rattle.analog_bass_drum.specs.Excitation.{excitation}
 use Rattle.analog_bass_drum.proofs.AnalogBassDrum.step.Statement.{statement}
 use Rattle.analog_bass_drum.proofs.AnalogBassDrum.step.Tie as tie
 
@@ -10,8 +9,7 @@ fm-pulse-requires : tie.Need-fm-pulse-requires
 fm-pulse-requires c κs = search needs
 
 frequency-requires : tie.Need-frequency-requires
-unfolding excitation
-frequency-requires c κs = rw (c .before .pre)
+frequency-requires c κs = search needs
 
 set-f-q-requires : tie.Need-set-f-q-requires
 set-f-q-requires c κs = search needs
@@ -23,7 +21,7 @@ one-pole-requires : tie.Need-one-pole-requires
 one-pole-requires c κs = search needs
 
 returns : tie.Need-returns
-unfolding step excitation round ofBits
+unfolding step round ofBits
 returns c =
     let c₁ = c .before in
     let c₂ = c₁ .before .before .before in

@@ -75,7 +75,7 @@ triggered v true accent decay =
 abbrev pub colorationQ : Float → Bool → Float
 colorationQ tone resonance = cond resonance (decimal 3 0 ⊕ decimal 3 0 ⊗ tone) (decimal 1 0)
 
--- both filters at the cutoff
+-- both filters at the cutoff; the Rust sets `hpf` only before its last pass, and nothing touches it until then
 unfoldable pub tuned : Hihat → Float → Bool → Hihat
 tuned v tone resonance =
     let cutoff = clamp (decimal 150 0 ⊘ v .«sample_rate» ⊗ ratio (tone ⊗ decimal 72 0)) (decimal 0 0) (decimal 16000 0 ⊘ v .«sample_rate») in

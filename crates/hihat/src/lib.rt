@@ -138,7 +138,7 @@ impl Hihat {
                 let start = self.triggered(trigger, accent, decay)
                     .tuned(tone, resonance);
                 let end = start.chain(noise, gain).run(settings, out);
-                let voice = self.after(end);
+                let voice = self.ended(end);
                 Rendered {
                     answer,
                     voice,
@@ -211,7 +211,7 @@ impl Hihat {
     }
 
     // The voice after the passes.
-    fn after(self, end: Chain) -> Self
+    fn ended(self, end: Chain) -> Self
         ensures { λ r. ⌜ r ≡ spec.ended self end ⌝ }
     {
         let square_noise = end.square_noise;

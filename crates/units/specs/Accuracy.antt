@@ -1,4 +1,5 @@
--- How close a ratio is to the power of two that its pitch names, over whole numbers; and the whole contract of `semitones_to_ratio`. Definitions only.
+-- How close a ratio is to the power of two of its pitch, cut to a 256th of a semitone, over whole numbers; and the whole contract of `semitones_to_ratio`.
+-- Definitions only.
 use mathlib.Core.Path.{_≡_}
 use mathlib.Core.Bool.{false, cond}
 use Prim.Native.Nat.{ℕ, _*_, _/_, _^_, _≤_}

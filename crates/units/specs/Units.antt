@@ -1,4 +1,4 @@
--- A pitch in semitones as a ratio of frequencies, line by line as the Rust works it out. Definitions only.
+-- utils/units.rs: a pitch in semitones as a ratio of frequencies, line by line as the Rust works it out. Definitions only.
 use Prim.Native.Nat.{ℕ}
 use mathlib.Core.Bool.{cond}
 use lib.IntN.{pos}

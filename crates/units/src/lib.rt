@@ -1,4 +1,4 @@
-// Pitches in semitones as ratios of frequencies.
+// utils/units.rs: pitches in semitones as ratios of frequencies.
 ghost use mathlib.Core.Path.{_≡_};
 ghost use Rattle.units.specs.Units as spec;
 ghost use Rattle.units.specs.Accuracy.{Promised};
@@ -24,7 +24,7 @@ impl Ratio {
     }
 }
 
-// The ratio 2^(semitones / 12): whole semitones by one table, 256ths of a semitone by the other.
+// The ratio 2^(semitones / 12), the pitch cut to a 256th of a semitone: whole semitones by one table, 256ths by the other.
 // `pitch` counts from the first entry, at -128 semitones; below 256 it has a place in both tables. One
 // that is negative, or not a number, reads the first entry of each.
 pub fn semitones_to_ratio(semitones: f32) -> Ratio

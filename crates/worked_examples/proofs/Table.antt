@@ -1,13 +1,12 @@
 -- Examples at the edges, each computed from the definitions that the contracts cite. Assumes nothing.
 use mathlib.Core.Path.{_≡_, refl}
-use mathlib.Core.List.{List}
-use Prim.Native.Nat.{ℕ, zero, suc}
-use lib.IntN.{pos}
+use Prim.Native.Nat.{ℕ}
 use lib.ListN.{getD}
-use lib.Ieee.{Float, nan, binary32, ofBits, toBits, ofInt, round, add, sub, mul, div, neg, le, lt, isNan, toUnsigned}
-use Rattle.ieee754.specs.Single.{_⊘_, _⊖_, decimal}
+use lib.Ieee.{nan, binary32, ofBits, toBits, ofInt, round, add, sub, mul, div, neg, le, lt, isNan, toUnsigned}
+use Rattle.ieee754.specs.Single.{_⊖_, decimal}
 use Rattle.ieee754.specs.Operations.{minimumNumber}
 use Rattle.ieee754.specs.Root.{sqrt}
+use Rattle.block.specs.Block.{after}
 use Rattle.random.specs.Random.{getWord, getFloat}
 use Rattle.units.specs.Tables.{«LUT_PITCH_RATIO_HIGH», «LUT_PITCH_RATIO_LOW»}
 use Rattle.units.specs.Units.{ratio, semitonesToRatio, number}
@@ -25,16 +24,13 @@ draws-33-2 : Draws.text (ascii "33,2\n") ≡ ascii "draw,word,bits\n1,1068833548
 unfolding Draws.text Draws.answer Draws.rows Draws.row Draws.readRequest Draws.fromFields Draws.readNumbers Draws.onNumber Read.ended Read.body Read.fields Read.attach Read.decimal Read.wellFormed Read.numeral Read.upTo Read.digit Write.decimal Write.digits Write.digit Write.places Write.placesWithin Write.pattern getWord getFloat toBits ofInt div round
 draws-33-2 = refl
 
--- a word as a float: its rounding to an f32, divided by 2^32
-abbrev asFloat : ℕ → Float
-asFloat word = ofInt binary32 (pos word) ⊘ decimal 4294967296 0
-
-word-4294967167 : asFloat 4294967167 ≡ ofBits binary32 0x3f7fffff
-unfolding ofInt div round ofBits
+-- words as floats, each from the state that draws it
+word-4294967167 : getFloat 3066647712 ≡ record { word = 4294967167; value = ofBits binary32 0x3f7fffff }
+unfolding getFloat getWord ofInt div round ofBits
 word-4294967167 = refl
 
-word-4294967168 : asFloat 4294967168 ≡ decimal 1 0
-unfolding ofInt div round
+word-4294967168 : getFloat 3047796069 ≡ record { word = 4294967168; value = decimal 1 0 }
+unfolding getFloat getWord ofInt div round
 word-4294967168 = refl
 
 -- pitches; 3a214518 is the first entry of the upper table
@@ -88,18 +84,17 @@ unfolding minimumNumber isNan round
 minimum-nan = refl
 
 -- square noise from phases of 0 at f0 = 0.25: how many phases are high after one, two and three samples
-abbrev phasesAfter : ℕ → List ℕ
-phasesAfter zero = SquareNoise.init .phase
-phasesAfter (suc n) = advanced (phasesAfter n) (increments (decimal 25 2))
+abbrev highAfter : ℕ → ℕ
+highAfter n = countHigh (after (SquareNoise.turn (increments (decimal 25 2))) n SquareNoise.init .phase)
 
-square-noise-1 : countHigh (phasesAfter 1) ≡ 0
-unfolding advanced increments increment ratios round mul le toUnsigned
+square-noise-1 : highAfter 1 ≡ 0
+unfolding after advanced increments increment ratios round mul le toUnsigned
 square-noise-1 = refl
 
-square-noise-2 : countHigh (phasesAfter 2) ≡ 6
-unfolding advanced increments increment ratios round mul le toUnsigned
+square-noise-2 : highAfter 2 ≡ 6
+unfolding after advanced increments increment ratios round mul le toUnsigned
 square-noise-2 = refl
 
-square-noise-3 : countHigh (phasesAfter 3) ≡ 2
-unfolding advanced increments increment ratios round mul le toUnsigned
+square-noise-3 : highAfter 3 ≡ 2
+unfolding after advanced increments increment ratios round mul le toUnsigned
 square-noise-3 = refl

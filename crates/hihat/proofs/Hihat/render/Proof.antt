@@ -42,8 +42,8 @@ chain-requires c κs = search needs
 run-requires : tie.Need-run-requires
 run-requires c κs = search needs
 
-after-requires : tie.Need-after-requires
-after-requires c κs = search needs
+ended-requires : tie.Need-ended-requires
+ended-requires c κs = search needs
 
 returns : tie.Need-returns
 returns c =
@@ -65,7 +65,7 @@ returns-2 c =
     let known = sets .before .before .before .asked .ensures in
     let told = sets .before .enum-told2 .given .1 in
     rw (
-      c .after .ensures,
+      c .ended .ensures,
       ran .run .ensures .0,
       ran .run .ensures .1,
       chained .chain .ensures,
@@ -90,7 +90,7 @@ render-spec =
     tuned-requires
     chain-requires
     run-requires
-    after-requires
+    ended-requires
     returns
     same-length
     returns-2)

@@ -1,4 +1,4 @@
-//! What is measured. A job gives a digest of its results, which is the same on both sides.
+//! What is measured: jobs that fill a buffer, on both sides with the same bits.
 use mi_plaits_dsp::drums::analog_bass_drum::AnalogBassDrum;
 use mi_plaits_dsp::drums::analog_snare_drum::AnalogSnareDrum;
 use mi_plaits_dsp::drums::hihat::{Hihat, NoiseType, VcaType};
@@ -7,16 +7,19 @@ use mi_plaits_dsp::utils::{random, units};
 use oracle::calls::Random;
 use oracle::port;
 use oracle::sheet;
-use oracle::state::{digest, pattern};
 use std::hint::black_box;
 
 pub struct Job {
     pub name: String,
     /// samples or calls in one run
     pub count: u64,
-    pub port: Box<dyn FnMut() -> u32>,
-    pub rust: Box<dyn FnMut() -> u32>,
+    /// places of the buffer
+    pub places: usize,
+    pub port: Run,
+    pub rust: Run,
 }
+
+pub type Run = Box<dyn FnMut(&mut [f32])>;
 
 /// As many as the longest block has: a third of a second.
 const SAMPLES: usize = 16384;
@@ -24,7 +27,7 @@ const NOISE: u32 = 33;
 const RATE: f32 = 48000.0;
 
 /// accent, f0, a, decay, c as in a cue line, and the bass's self_fm_amount. No compiler sees them: neither side is made for these alone, and what follows
-/// from them is worked out at each block.
+/// from them is worked out at each block. The flags are constants on both sides.
 type Knobs = [f32; 6];
 const BASS: Knobs = [0.8, 0.001, 0.4, 0.6, 0.5, 0.3];
 const SNARE: Knobs = [0.8, 0.004, 0.5, 0.6, 0.5, 0.0];
@@ -36,29 +39,26 @@ pub fn jobs() -> Vec<Job> {
         jobs.push(voice("AnalogBassDrum", block, BASS, bass_port, bass_rust));
         jobs.push(voice("AnalogSnareDrum", block, SNARE, snare_port, snare_rust));
         jobs.push(voice("SyntheticSnareDrum", block, SNARE, synthetic_snare_port, synthetic_snare_rust));
-        jobs.push(voice("Hihat", block, HIHAT, hihat_port, hihat_rust));
+        jobs.push(voice("Hihat", block, HIHAT, hihat_port, hihat_rust(block)));
     }
     jobs.extend([full_sheet(), ratios(), roots(), draws()]);
     jobs
 }
 
-/// The rate, the knobs, the number of blocks, and the block.
-type Blocks = fn(f32, Knobs, u32, &mut [f32]);
-
-/// A voice from its init, struck at the first of the blocks that make up `SAMPLES`.
-fn voice(name: &str, block: usize, knobs: Knobs, port: Blocks, rust: Blocks) -> Job {
-    let run = move |blocks: Blocks| {
-        let mut out = vec![0.0; block];
-        move || {
-            black_box(blocks)(black_box(RATE), black_box(knobs), (SAMPLES / block) as u32, &mut out);
-            bits(&out[..block.min(64)])
-        }
-    };
-    Job { name: format!("{name}, blocks of {block}"), count: SAMPLES as u64, port: Box::new(run(port)), rust: Box::new(run(rust)) }
+/// A voice from its init, struck at the first of the blocks that make up `SAMPLES`. Both sides take the rate, the knobs, the number of blocks and the block.
+fn voice(name: &str, block: usize, knobs: Knobs, port: impl FnMut(f32, Knobs, u32, &mut [f32]) + 'static, rust: impl FnMut(f32, Knobs, u32, &mut [f32]) + 'static) -> Job {
+    let blocks = (SAMPLES / block) as u32;
+    Job {
+        name: format!("{name}, blocks of {block}"),
+        count: SAMPLES as u64,
+        places: block,
+        port: run(blocks, knobs, port),
+        rust: run(blocks, knobs, rust),
+    }
 }
 
-fn bits(out: &[f32]) -> u32 {
-    digest(out.iter().map(|x| pattern(*x)))
+fn run(blocks: u32, knobs: Knobs, mut side: impl FnMut(f32, Knobs, u32, &mut [f32]) + 'static) -> Run {
+    Box::new(move |out| side(black_box(RATE), black_box(knobs), black_box(blocks), out))
 }
 
 fn bass_port(rate: f32, [accent, f0, tone, decay, attack_fm, self_fm]: Knobs, blocks: u32, out: &mut [f32]) {
@@ -69,8 +69,8 @@ fn bass_rust(rate: f32, knobs: Knobs, blocks: u32, out: &mut [f32]) {
     let mut voice = AnalogBassDrum::new();
     voice.init(rate);
     for i in 0..blocks {
-        let (sustain, [accent, f0, tone, decay, attack_fm, self_fm]) = black_box((false, knobs));
-        voice.render(sustain, i == 0, accent, f0, tone, decay, attack_fm, self_fm, out);
+        let [accent, f0, tone, decay, attack_fm, self_fm] = black_box(knobs);
+        voice.render(false, i == 0, accent, f0, tone, decay, attack_fm, self_fm, out);
     }
 }
 
@@ -83,8 +83,8 @@ fn snare_rust(rate: f32, knobs: Knobs, blocks: u32, out: &mut [f32]) {
     let mut voice = AnalogSnareDrum::new();
     voice.init(rate);
     for i in 0..blocks {
-        let (sustain, [accent, f0, tone, decay, snappy, _]) = black_box((false, knobs));
-        voice.render(sustain, i == 0, accent, f0, tone, decay, snappy, out);
+        let [accent, f0, tone, decay, snappy, _] = black_box(knobs);
+        voice.render(false, i == 0, accent, f0, tone, decay, snappy, out);
     }
 }
 
@@ -97,8 +97,8 @@ fn synthetic_snare_rust(rate: f32, knobs: Knobs, blocks: u32, out: &mut [f32]) {
     let mut voice = SyntheticSnareDrum::new();
     voice.init(rate);
     for i in 0..blocks {
-        let (sustain, [accent, f0, fm_amount, decay, snappy, _]) = black_box((false, knobs));
-        voice.render(sustain, i == 0, accent, f0, fm_amount, decay, snappy, out);
+        let [accent, f0, fm_amount, decay, snappy, _] = black_box(knobs);
+        voice.render(false, i == 0, accent, f0, fm_amount, decay, snappy, out);
     }
 }
 
@@ -106,16 +106,18 @@ fn hihat_port(rate: f32, [accent, f0, tone, decay, noisiness, _]: Knobs, blocks:
     port::hihat(NOISE, rate, blocks, accent, f0, tone, decay, noisiness, out);
 }
 
-fn hihat_rust(rate: f32, knobs: Knobs, blocks: u32, out: &mut [f32]) {
-    let (mut temp_1, mut temp_2) = ([0.0; SAMPLES], [0.0; SAMPLES]);
-    let (temp_1, temp_2) = (&mut temp_1[..out.len()], &mut temp_2[..out.len()]);
-    random::seed(NOISE);
-    let mut voice = Hihat::new();
-    voice.init(rate);
-    for i in 0..blocks {
-        let (noise, vca) = (NoiseType::Square, VcaType::Swing);
-        let (sustain, resonance, two_stage, [accent, f0, tone, decay, noisiness, _]) = black_box((false, true, false, knobs));
-        voice.render(sustain, i == 0, accent, f0, tone, decay, noisiness, temp_1, temp_2, out, noise, vca, resonance, two_stage);
+/// The two scratch slices are made once, before anything is measured.
+fn hihat_rust(block: usize) -> impl FnMut(f32, Knobs, u32, &mut [f32]) {
+    let (mut temp_1, mut temp_2) = (vec![0.0; block], vec![0.0; block]);
+    move |rate, knobs, blocks, out| {
+        random::seed(NOISE);
+        let mut voice = Hihat::new();
+        voice.init(rate);
+        for i in 0..blocks {
+            let (noise, vca) = (NoiseType::Square, VcaType::Swing);
+            let [accent, f0, tone, decay, noisiness, _] = black_box(knobs);
+            voice.render(false, i == 0, accent, f0, tone, decay, noisiness, &mut temp_1, &mut temp_2, out, noise, vca, true, false);
+        }
     }
 }
 
@@ -128,15 +130,12 @@ fn full_sheet() -> Job {
         text += &format!("{},{voice}{knobs}\n", i * SAMPLES / 64);
     }
     let (bytes, copy) = (text.clone().into_bytes(), text.into_bytes());
-    let (mut out, mut other) = (vec![0.0; SAMPLES], vec![0.0; SAMPLES]);
     Job {
         name: "sheet of 64 cues".to_string(),
         count: SAMPLES as u64,
-        port: Box::new(move || port::sheet(black_box(&bytes), &mut out) + bits(&out[SAMPLES - 64..])),
-        rust: Box::new(move || {
-            sheet::samples(black_box(&copy), &mut other).expect("an accepted sheet");
-            bits(&other[SAMPLES - 64..])
-        }),
+        places: SAMPLES,
+        port: Box::new(move |out| assert_eq!(port::sheet(black_box(&bytes), out), 0, "an accepted sheet")),
+        rust: Box::new(move |out| sheet::samples(black_box(&copy), out).expect("an accepted sheet")),
     }
 }
 
@@ -148,8 +147,9 @@ fn calls(name: &str, inputs: Vec<f32>, port: extern "C" fn(f32) -> f32, rust: fn
     Job {
         name: name.to_string(),
         count: CALLS as u64,
-        port: Box::new(move || inputs.iter().fold(0, |h, x| h ^ black_box(port)(*x).to_bits())),
-        rust: Box::new(move || copy.iter().fold(0, |h, x| h ^ black_box(rust)(*x).to_bits())),
+        places: CALLS,
+        port: Box::new(move |out| out.iter_mut().zip(&inputs).for_each(|(place, x)| *place = black_box(port)(*x))),
+        rust: Box::new(move |out| out.iter_mut().zip(&copy).for_each(|(place, x)| *place = black_box(rust)(*x))),
     }
 }
 
@@ -172,15 +172,16 @@ fn roots() -> Job {
 }
 
 fn draws() -> Job {
-    let (mut out, mut other) = (vec![0.0; CALLS], vec![0.0; CALLS]);
     Job {
         name: "get_float".to_string(),
         count: CALLS as u64,
-        port: Box::new(move || port::get_float(NOISE, black_box(&mut out)) ^ bits(&out[CALLS - 64..])),
-        rust: Box::new(move || {
+        places: CALLS,
+        port: Box::new(|out| {
+            port::get_float(NOISE, out);
+        }),
+        rust: Box::new(|out| {
             random::seed(NOISE);
-            black_box(&mut other).iter_mut().for_each(|place| *place = random::get_float());
-            oracle::voices::noise_state() ^ bits(&other[CALLS - 64..])
+            out.iter_mut().for_each(|place| *place = random::get_float());
         }),
     }
 }

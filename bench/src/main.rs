@@ -1,7 +1,9 @@
 //! The compiled port and the published Rust on the same inputs, in one process: `bench` prints times, `bench once NAME SIDE TIMES` runs a job for callgrind.
 mod jobs;
 
-use jobs::{Job, jobs};
+use jobs::{Job, Run, jobs};
+use oracle::state::pattern;
+use std::hint::black_box;
 use std::time::Instant;
 
 const RUNS: usize = 31;
@@ -24,12 +26,13 @@ fn main() {
 fn table() {
     println!("| | port, ns | Rust, ns | port / Rust |\n|---|---|---|---|");
     for mut job in jobs() {
-        assert_eq!((job.port)(), (job.rust)(), "{}: both give the same bits", job.name);
-        let times = (RUN / seconds(&mut job.rust, 1)).ceil() as u32;
+        let mut out = vec![0.0; job.places];
+        assert!(bits(&mut job.port, &mut out) == bits(&mut job.rust, &mut out), "{}: both give the same bits", job.name);
+        let times = (RUN / seconds(&mut job.rust, 1, &mut out)).ceil() as u32;
         let (mut port, mut rust, mut ratio) = (Vec::new(), Vec::new(), Vec::new());
         for _ in 0..RUNS {
-            port.push(seconds(&mut job.port, times));
-            rust.push(seconds(&mut job.rust, times));
+            port.push(seconds(&mut job.port, times, &mut out));
+            rust.push(seconds(&mut job.rust, times, &mut out));
             ratio.push(port[port.len() - 1] / rust[rust.len() - 1]);
         }
         let each = 1e9 / f64::from(times) / job.count as f64;
@@ -37,10 +40,17 @@ fn table() {
     }
 }
 
-fn seconds(job: &mut dyn FnMut() -> u32, times: u32) -> f64 {
+/// What a run leaves in the buffer, whole.
+fn bits(run: &mut Run, out: &mut [f32]) -> Vec<u32> {
+    out.fill(f32::NAN);
+    run(out);
+    out.iter().map(|x| pattern(*x)).collect()
+}
+
+fn seconds(run: &mut Run, times: u32, out: &mut [f32]) -> f64 {
     let start = Instant::now();
     for _ in 0..times {
-        std::hint::black_box(job());
+        run(black_box(&mut *out));
     }
     start.elapsed().as_secs_f64()
 }
@@ -54,6 +64,6 @@ fn median(mut values: Vec<f64>) -> f64 {
 fn once(name: &str, side: &str, times: u32) {
     let mut job: Job = jobs().into_iter().find(|job| job.name == name).expect("NAME is in the table");
     let run = if side == "port" { &mut job.port } else { &mut job.rust };
-    seconds(run, times);
+    seconds(run, times, &mut vec![0.0; job.places]);
     println!("{}", job.count * u64::from(times));
 }

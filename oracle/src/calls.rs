@@ -37,6 +37,7 @@ impl Random {
 pub fn rate(r: &mut Random) -> f32 {
     match r.below(8) {
         0 => r.of(&[16000.0, 96000.0, 48000.0, 44100.0]),
+        // times 1e-3, or 6e-3, the first two round up to a whole number; the third is just below one where a truncation changes
         1 => r.of(&[21999.998, 16166.666, 19999.998]),
         2 => r.of(&[15999.999, 96000.01, 0.0, -48000.0, f32::NAN, f32::INFINITY]),
         _ => 16000.0 + r.unit() * 80000.0,
@@ -55,7 +56,8 @@ pub fn f0(r: &mut Random) -> f32 {
 pub fn knob(r: &mut Random) -> f32 {
     match r.below(8) {
         0 => r.of(&[0.0, -0.0, 1.0]),
-        1 => r.of(&[f32::from_bits(1), f32::from_bits(0x3f7f_ffff), 0.666667, f32::from_bits(0x3f2a_aab0)]),
+        // 0.666667 is where the snare's gains change
+        1 => r.of(&[f32::from_bits(1), 1.0f32.next_down(), 0.666667, 0.666667f32.next_down()]),
         2 => f32::from_bits(r.below(0x3f80_0001)),
         _ => r.unit(),
     }

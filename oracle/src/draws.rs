@@ -33,7 +33,7 @@ fn text(input: &[u8]) -> String {
     random::seed(state);
     let rows = (1..=count).map(|i| {
         let value = random::get_float();
-        // the word is the state; its float is drawn from a copy
+        // the word is the new state; to read it draws one more, so it is set back
         let word = crate::voices::noise_state();
         random::seed(word);
         format!("{i},{word},{:08x}\n", value.to_bits())

@@ -44,7 +44,7 @@ fn same_ratio(semitones: f32) -> bool {
     }
 }
 
-/// The words i * ODD for i below `count`: spread over all patterns, and all of them where the count is 2^32. One thread a core of two.
+/// The words i * ODD for i below `count`: spread over all patterns, and all of them where the count is 2^32. Two threads, half of them each.
 fn sweep(name: &str, count: u64, agrees: impl Fn(u32) -> bool + Sync) -> u64 {
     const ODD: u32 = 0x9e37_79b1;
     let differ = |from: u64, to: u64| (from..to).filter(|i| !agrees((*i as u32).wrapping_mul(ODD))).count() as u64;

@@ -1,6 +1,6 @@
 //! A recorded call, as `replay` reads it, and its answer, as `replay` prints it.
 
-#[derive(Clone, Copy, PartialEq, Eq, Debug)]
+#[derive(Clone, Copy)]
 pub enum Kind {
     Zero,
     Init,
@@ -14,7 +14,7 @@ pub const RESONANCE: u8 = 0x08;
 pub const TWO_STAGE: u8 = 0x10;
 
 /// `knobs` of an `Init`: the rate first. Of a `Render`: accent, f0, a, decay, c, and the bass's self_fm_amount.
-#[derive(Clone, Copy, Debug)]
+#[derive(Clone, Copy)]
 pub struct Row {
     pub voice: char,
     pub kind: Kind,

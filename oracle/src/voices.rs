@@ -9,7 +9,7 @@ use mi_plaits_dsp::utils::random;
 
 pub const LEAST_F0: f32 = 1.0 / 1048576.0;
 
-pub fn is_rate(x: f32) -> bool {
+fn is_rate(x: f32) -> bool {
     (16000.0..=96000.0).contains(&x)
 }
 
@@ -27,10 +27,11 @@ pub fn noise_state() -> u32 {
     random::get_word().wrapping_sub(1013904223).wrapping_mul(INVERSE)
 }
 
+/// The inverse of an odd number modulo 2^32, by Newton's rule: a itself is right in 3 bits, and each step doubles them, to 48.
 const fn inverse(a: u32) -> u32 {
     let mut x = a;
     let mut i = 0;
-    while i < 5 {
+    while i < 4 {
         x = x.wrapping_mul(2u32.wrapping_sub(a.wrapping_mul(x)));
         i += 1;
     }
@@ -40,10 +41,10 @@ const fn inverse(a: u32) -> u32 {
 /// The voices, each with the rate of its last accepted init; 0.0 in a record with every field zero.
 #[derive(Default)]
 pub struct Voices {
-    pub b: AnalogBassDrum,
-    pub s: AnalogSnareDrum,
-    pub y: SyntheticSnareDrum,
-    pub h: Hihat,
+    b: AnalogBassDrum,
+    s: AnalogSnareDrum,
+    y: SyntheticSnareDrum,
+    h: Hihat,
     y_rate: f32,
     h_rate: f32,
     temp_1: Vec<f32>,

@@ -1,12 +1,11 @@
--- Digests of 32 bits. Definitions only.
-use Prim.Native.Nat.{ℕ, _*_, _%_, _^_}
+-- Digests of 32 bits: the words are the coefficients of a polynomial, modulo the largest prime below 2^32. Definitions only.
+use Prim.Native.Nat.{ℕ, _+_, _*_, _%_}
 use mathlib.Core.List.{List, [], _∷_}
-use lib.Bits.{bitXor}
 use lib.Ieee.{Float, binary32, toBits}
 
--- the digest h and one word more
+-- the digest h and one word more. A power of two would not do as the modulus: two errors of sign would cancel.
 unfoldable pub word : ℕ → ℕ → ℕ
-word h w = bitXor h w * 16777619 % 2 ^ 32
+word h w = (h * 16777619 + w) % 4294967291
 
 -- the digest h and the words of a list more, the first one first
 abbrev pub words : ℕ → List ℕ → ℕ
@@ -14,7 +13,7 @@ words h [] = h
 words h (w ∷ ws) = words (word h w) ws
 
 abbrev pub digest : List ℕ → ℕ
-digest ws = words 2166136261 ws
+digest ws = words 1 ws
 
 -- the word of a float: its pattern, and 7fc00000 for every not-a-number
 abbrev pub pattern : Float → ℕ

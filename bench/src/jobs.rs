@@ -46,7 +46,13 @@ pub fn jobs() -> Vec<Job> {
 }
 
 /// A voice from its init, struck at the first of the blocks that make up `SAMPLES`. Both sides take the rate, the knobs, the number of blocks and the block.
-fn voice(name: &str, block: usize, knobs: Knobs, port: impl FnMut(f32, Knobs, u32, &mut [f32]) + 'static, rust: impl FnMut(f32, Knobs, u32, &mut [f32]) + 'static) -> Job {
+fn voice(
+    name: &str,
+    block: usize,
+    knobs: Knobs,
+    port: impl FnMut(f32, Knobs, u32, &mut [f32]) + 'static,
+    rust: impl FnMut(f32, Knobs, u32, &mut [f32]) + 'static,
+) -> Job {
     let blocks = (SAMPLES / block) as u32;
     Job {
         name: format!("{name}, blocks of {block}"),

@@ -43,15 +43,20 @@ fn struck_unstarted(f0: f32, out: &mut [f32]) -> Answer {
     rendered.answer
 }
 
-// A sheet of two samples into a lent buffer.
-fn rendered(out: &mut [f32]) -> Answer {
+// A sheet of two samples into a lent buffer. Where it is refused, its line too.
+fn print_rendered(example: &[u8], out: &mut [f32]) {
     match cue_render::render(b"48000,2\n", out) {
         Judgment::Accepted {
             rate: _,
             length: _,
             cues: _,
-        } => Answer::Accepted,
-        Judgment::Refused { refusal, line: _ } => Answer::Refused(refusal),
+        } => print(example, Answer::Accepted),
+        Judgment::Refused { refusal, line } => {
+            print(example, Answer::Refused(refusal));
+            io::write_all(STDOUT_FILENO, b"its line: ");
+            io::print_decimal(STDOUT_FILENO, line as u64);
+            io::write_all(STDOUT_FILENO, b"\n");
+        }
     }
 }
 
@@ -73,7 +78,7 @@ fn main() {
     );
 
     let mut one = [0.0f32; 1];
-    print(b"a sheet of 2 samples into 1 place", rendered(&mut one));
+    print_rendered(b"a sheet of 2 samples into 1 place", &mut one);
     let mut two = [0.0f32; 2];
-    print(b"a sheet of 2 samples into 2 places", rendered(&mut two));
+    print_rendered(b"a sheet of 2 samples into 2 places", &mut two);
 }

@@ -100,6 +100,11 @@ chain v noise sustainGain = record {
   hpf = v .hpf;
 }
 
+-- what the passes of an accepted call start in
+abbrev pub begun : Hihat → ℕ → Bool → Float → Float → Float → Bool → ℕ → Chain
+begun v noise trigger accent tone decay resonance size =
+    chain (tuned (triggered v trigger accent decay) tone resonance) noise (ParameterInterpolator.new (v .«sustain_gain») (accent ⊗ decay) size)
+
 abbrev pub ended : Hihat → Chain → Hihat
 ended v c = record {
   «sample_rate» = v .«sample_rate»;
@@ -122,16 +127,10 @@ renderRefusal sampleRate size accent f0 tone decay noisiness =
     (askKnobs f0 accent tone decay noisiness 0))
 
 module _ (v : Hihat) (noise : ℕ) (sustain trigger : Bool) (accent f0 tone decay noisiness : Float) where
-  -- the states that the passes over a block of an accepted call start in
-  abbrev pub start : ℕ → Bool → Chain
-  start size resonance =
-      chain (tuned (triggered v trigger accent decay) tone resonance) noise
-      (ParameterInterpolator.new (v .«sustain_gain») (accent ⊗ decay) size)
-
-  -- the states that they leave
+  -- the states that the passes of an accepted call leave
   abbrev pub end : ℕ → VcaType → Bool → Bool → Chain
   end size vcaType resonance twoStageEnvelope =
-      passed (settings f0 decay noisiness sustain vcaType twoStageEnvelope) size (start size resonance)
+      passed (settings f0 decay noisiness sustain vcaType twoStageEnvelope) size (begun v noise trigger accent tone decay resonance size)
 
   -- the voice after the call
   abbrev pub render : ℕ → VcaType → Bool → Bool → Hihat
@@ -147,5 +146,6 @@ module _ (v : Hihat) (noise : ℕ) (sustain trigger : Bool) (accent f0 tone deca
   abbrev pub renderOut : List Float → VcaType → Bool → Bool → List Float
   renderOut out vcaType resonance twoStageEnvelope =
       unlessRefused (renderRefusal (v .«sample_rate») (length out) accent f0 tone decay noisiness)
-      (filtered (settings f0 decay noisiness sustain vcaType twoStageEnvelope) (length out) (start (length out) resonance))
+      (filtered (settings f0 decay noisiness sustain vcaType twoStageEnvelope) (length out)
+      (begun v noise trigger accent tone decay resonance (length out)))
       out

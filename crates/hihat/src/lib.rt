@@ -4,6 +4,7 @@ mod square_noise; // square_noise.rt: the metallic noise
 
 pub use square_noise::SquareNoise;
 ghost use mathlib.Core.Path.{_≡_};
+ghost use Prim.Native.Nat.{_≤_};
 ghost use lib.ListN.{length};
 ghost use Rattle.refusal.specs.Refusal.{answerNumber, KnobIn};
 ghost use Rattle.hihat.specs.Hihat as spec;
@@ -130,14 +131,8 @@ impl Hihat {
                     vca_type,
                     two_stage_envelope,
                 );
-                let gain = ParameterInterpolator::new(
-                    self.sustain_gain,
-                    accent * decay,
-                    out.len() as u32,
-                );
-                let start = self.triggered(trigger, accent, decay)
-                    .tuned(tone, resonance);
-                let end = start.chain(noise, gain).run(settings, out);
+                let start = self.begun(noise, trigger, accent, tone, decay, resonance, out.len());
+                let end = start.run(settings, out);
                 let voice = self.ended(end);
                 Rendered {
                     answer,
@@ -187,7 +182,27 @@ impl Hihat {
         }
     }
 
-    // The states that the passes over a block start in.
+    // What the passes over a block start in.
+    fn begun(
+        self,
+        noise: u32,
+        trigger: bool,
+        accent: f32,
+        tone: f32,
+        decay: f32,
+        resonance: bool,
+        size: usize,
+    ) -> Chain
+        requires { ⌜ KnobIn tone × (size ≤ 16384) ⌝ }
+        ensures { λ r. ⌜ r ≡ spec.begun self noise trigger accent tone decay resonance size ⌝ }
+    {
+        let gain = ParameterInterpolator::new(self.sustain_gain, accent * decay, size as u32);
+        self.triggered(trigger, accent, decay)
+            .tuned(tone, resonance)
+            .chain(noise, gain)
+    }
+
+    // The states of the passes, from the voice.
     fn chain(self, noise: u32, sustain_gain: ParameterInterpolator) -> Chain
         ensures { λ r. ⌜ r ≡ spec.chain self noise «sustain_gain» ⌝ }
     {

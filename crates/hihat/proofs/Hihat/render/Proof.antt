@@ -1,7 +1,6 @@
 -- `hihat::Hihat::render` meets its contract. Assumes nothing.
 use borrow.Author.Needs.{needs}
 use mathlib.Core.Path.{sym}
-use native.Mathlib.Omega.{arith}
 use Rattle.refusal.proofs.Laws.{zero-of, arm-accepted, arm-refused}
 use Rattle.hihat.proofs.Laws.{accepted}
 use Rattle.hihat.proofs.Hihat.render.Statement.{statement}
@@ -19,25 +18,11 @@ enum-told-2 c = search needs
 block-settings-requires : tie.Need-block-settings-requires
 block-settings-requires c κs = accepted _ _ _ _ _ _ _ (zero-of _ _ (c .before .before .asked .ensures) (c .enum-told2 .given .1)) .decay-in
 
-cast-new : tie.Need-cast-new
-cast-new c =
-    let a = c .before .before .before in
-    let short = accepted _ _ _ _ _ _ _ (zero-of _ _ (a .asked .ensures) (c .before .enum-told2 .given .1)) .short in
-    omega arith
-
-new-requires : tie.Need-new-requires
-new-requires c κs = search needs
-
-triggered-requires : tie.Need-triggered-requires
-triggered-requires c κs = search needs
-
-tuned-requires : tie.Need-tuned-requires
-tuned-requires c κs =
-    let a = c .before .before .before .before .before in
-    accepted _ _ _ _ _ _ _ (zero-of _ _ (a .asked .ensures) (c .before .before .before .enum-told2 .given .1)) .tone-in
-
-chain-requires : tie.Need-chain-requires
-chain-requires c κs = search needs
+begun-requires : tie.Need-begun-requires
+begun-requires c κs =
+    let m = c .before in
+    let a = accepted _ _ _ _ _ _ _ (zero-of _ _ (m .before .before .asked .ensures) (m .enum-told2 .given .1)) in
+    (a .tone-in, a .short)
 
 run-requires : tie.Need-run-requires
 run-requires c κs = search needs
@@ -57,21 +42,15 @@ same-length c = search needs
 returns-2 : tie.Need-returns-2
 returns-2 c =
     let ran = c .before .before .before in
-    let chained = ran .before .before in
-    let tunes = chained .before in
-    let triggers = tunes .before in
-    let slides = triggers .before in
-    let sets = slides .before in
+    let begins = ran .before .before in
+    let sets = begins .before in
     let known = sets .before .before .before .asked .ensures in
     let told = sets .before .enum-told2 .given .1 in
     rw (
       c .ended .ensures,
       ran .run .ensures .0,
       ran .run .ensures .1,
-      chained .chain .ensures,
-      tunes .tuned .ensures,
-      triggers .triggered .ensures,
-      slides .new .ensures,
+      begins .begun .ensures,
       sets .block-settings .ensures,
     )
     (known, (sym (arm-accepted _ _ _ _ known told), (sym (arm-accepted _ _ _ _ known told), sym (arm-accepted _ _ _ _ known told))))
@@ -84,11 +63,7 @@ render-spec =
     enum-told
     enum-told-2
     block-settings-requires
-    cast-new
-    new-requires
-    triggered-requires
-    tuned-requires
-    chain-requires
+    begun-requires
     run-requires
     ended-requires
     returns

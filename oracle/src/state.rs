@@ -5,9 +5,10 @@ pub fn pattern(x: f32) -> u32 {
     if x.is_nan() { 0x7fc0_0000 } else { x.to_bits() }
 }
 
-/// The words as coefficients of a polynomial, modulo the largest prime below 2^32.
+/// h = (h xor word) * 16777619 modulo 2^32 for each word, from 2166136261: FNV-1a over words. Two errors in a sign alone cancel in it; a block of one
+/// sample, or of an odd number of errors, shows them.
 pub fn digest(words: impl IntoIterator<Item = u32>) -> u32 {
-    words.into_iter().fold(1, |h, word| ((u64::from(h) * 16777619 + u64::from(word)) % 4294967291) as u32)
+    words.into_iter().fold(2166136261, |h, word| (h ^ word).wrapping_mul(16777619))
 }
 
 /// The numbers of a `Debug` text in their order, without the fields that are named in `left_out`.

@@ -1,11 +1,12 @@
--- Digests of 32 bits: the words are the coefficients of a polynomial, modulo the largest prime below 2^32. Definitions only.
-use Prim.Native.Nat.{ℕ, _+_, _*_, _%_}
+-- Digests of 32 bits: the start and the prime of FNV-1a, over words in place of bytes. Definitions only.
+use Prim.Native.Nat.{ℕ, _*_, _%_, _^_}
 use mathlib.Core.List.{List, [], _∷_}
+use lib.Bits.{bitXor}
 use lib.Ieee.{Float, binary32, toBits}
 
--- the digest h and one word more. A power of two would not do as the modulus: two errors of sign would cancel.
+-- the digest h and one word more
 unfoldable pub word : ℕ → ℕ → ℕ
-word h w = (h * 16777619 + w) % 4294967291
+word h w = bitXor h w * 16777619 % 2 ^ 32
 
 -- the digest h and the words of a list more, the first one first
 abbrev pub words : ℕ → List ℕ → ℕ
@@ -13,7 +14,7 @@ words h [] = h
 words h (w ∷ ws) = words (word h w) ws
 
 abbrev pub digest : List ℕ → ℕ
-digest ws = words 1 ws
+digest ws = words 2166136261 ws
 
 -- the word of a float: its pattern, and 7fc00000 for every not-a-number
 abbrev pub pattern : Float → ℕ

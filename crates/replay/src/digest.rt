@@ -2,13 +2,13 @@
 ghost use mathlib.Core.Path.{_≡_};
 ghost use Rattle.replay.specs.Digest as Digest;
 
-// The digest of no word: not 0, so that words of 0 in front count.
-pub(crate) const START: u32 = 1;
+// The digest of no word.
+pub(crate) const START: u32 = 2166136261;
 
 pub(crate) fn word(h: u32, word: u32) -> u32
     ensures { λ r. ⌜ r ≡ Digest.word h word ⌝ }
 {
-    ((h as u64 * 16777619 + word as u64) % 4294967291) as u32
+    (((h ^ word) as u64 * 16777619) % 4294967296) as u32
 }
 
 pub(crate) fn float(h: u32, x: f32) -> u32

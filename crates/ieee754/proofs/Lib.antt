@@ -1,9 +1,10 @@
 -- The laws that several modules, or other crates, use.
 pub mod Bounds
-pub mod Fields
+pub mod Equal
+mod Fields
 mod Formats
 pub mod NotANumber
-mod Numbers
+pub mod Numbers
 pub mod Signs
-pub mod Units
+mod Units
 pub mod Whole

@@ -2,12 +2,13 @@
 use Prim.Native.Nat.{ℕ, _<_, _%_}
 use native.Mathlib.Decide.{decLt}
 use native.Mathlib.Omega.{arith}
-use mathlib.Core.Path.{_≡_, refl, sym, _∙_}
+use mathlib.Core.Path.{_≡_, sym, _∙_}
 use mathlib.Core.Bool.{Bool, true, false, not}
 use lib.Dec.{T, ltb, leb}
-use lib.Ieee.{Float, nan, inf, fin, binary32, isNan, ofBits, nanBits}
+use lib.Ieee.{nan, binary32, ofBits, nanBits}
 use lib.Ieee.Bits.{nanBits-is, nanBits-above}
 use borrow.Author.Tests.{lt-ltb, le-ltb, le-leb, lt-leb, not-false}
+use Rattle.ieee754.proofs.Fields.{is-nan, nan-test}
 
 -- a pattern is that of a number where, its sign aside, it is at most that of the infinity
 pub number-bits : (bits : ℕ) → leb (bits % 2147483648) 2139095040 ≡ not (nanBits binary32 bits)
@@ -17,14 +18,8 @@ number-bits bits = rw (nanBits-above binary32 bits) (go (decLt 2139095040 (bits 
     go (yes h) = rw (lt-ltb 2139095040 (bits % 2147483648) h) (lt-leb (bits % 2147483648) 2139095040 h)
     go (no h) = rw (le-ltb 2139095040 (bits % 2147483648) (omega arith)) (le-leb (bits % 2147483648) 2139095040 (omega arith))
 
-is-nan : (x : Float) → isNan x ≡ true → x ≡ nan
-unfolding isNan
-is-nan nan h = refl
-is-nan (inf s) h = let z : _≡_ {A = ℕ} 0 1 = cc in absurd (omega arith)
-is-nan (fin s m e) h = let z : _≡_ {A = ℕ} 0 1 = cc in absurd (omega arith)
-
 pub nan-of : (bits : ℕ) → nanBits binary32 bits ≡ true → ofBits binary32 bits ≡ nan
-nan-of bits h = is-nan (ofBits binary32 bits) (sym (nanBits-is binary32 bits) ∙ h)
+nan-of bits h = is-nan (ofBits binary32 bits) (nan-test (ofBits binary32 bits) ∙ sym (nanBits-is binary32 bits) ∙ h)
 
 -- what the test of a pattern says
 module _ (bits : ℕ) {number : Bool} (known : number ≡ not (nanBits binary32 bits)) where

@@ -1,2 +1,2 @@
 -- The laws of the choice between two operands.
-pub mod Choice
+mod Choice

@@ -1,22 +1,22 @@
 -- Two choices that one comparison makes, for every x: x is below 1 - x where it is below 0.5, and the larger of 1 - x and 1 + x is 1 + |x|. Assumes nothing.
 use borrow.Author.Tests.{ltb-true, ltb-false, lt-ltb, le-ltb}
-use mathlib.Core.Path.{_≡_, refl, sym, ap, _∙_}
-use mathlib.Core.Bool.{Bool, true, false, cond, _||_, Bool·beq, true≢false}
+use mathlib.Core.Path.{_≡_, refl, sym, _∙_}
+use mathlib.Core.Bool.{Bool, true, false, cond, true≢false}
 use Prim.Native.Nat.{ℕ, _+_, _-_, _*_, _≤_, _<_}
 use native.Mathlib.Nat.{le-refl, mul-pos, mul-le-mul-right, mul-lt-mul-of-pos-right}
 use native.Mathlib.Omega.{arith}
 use lib.IntN.{ℤ, negsuc}
-use lib.Dec.{T, ltb, eqb, eqb→eq, ltb→lt, lit<}
-use lib.Ieee.{Float, nan, inf, fin, Format, binary32, up, down, round, sum, add, sub, neg, lt, eq, le, fits, toBits, ofBits}
-use lib.Ieee.Bits.{ofBits-toBits}
-use lib.Ieee.Fits.{and-l, up-pos, down-pos, round-fits}
+use lib.Dec.{T, ltb, ltb→lt, lit<}
+use lib.Ieee.{Float, nan, inf, fin, Format, binary32, up, down, round, sum, add, sub, neg, lt, le}
+use lib.Ieee.Bits.{is-true}
+use lib.Ieee.Fits.{up-pos, down-pos, round-fits}
 use lib.Ieee.Order.{round-mono}
 use lib.Ieee.Positive.{above, above-of-le, through}
 use Rattle.ieee754.specs.Operations.{isSignMinus, abs}
 use Rattle.ieee754.specs.Single.{_⊕_, _⊖_, decimal}
 use Rattle.ieee754.proofs.Bounds.{at-most}
+use Rattle.ieee754.proofs.Equal.{equal-value}
 use Rattle.ieee754.proofs.Signs.{round-sign}
-use Rattle.ieee754.proofs.Units.{same-bits}
 
 -- ---- what has a minus sign is below what is above 0
 minus-lt : (x y : Float) → isSignMinus x ≡ true → T (above y) → lt x y ≡ true
@@ -61,22 +61,6 @@ not-lt (inf false) (fin t n d) s h = refl
 not-lt (fin true m e) y s h = absurd (true≢false s)
 not-lt (fin false m e) y s h = fin-not-lt m m e e y (le-refl _) h
 
--- ---- equal numbers of one sign are one value
-one-value : (f : Format) (x y : Float) → T (fits f x) → T (fits f y) → isSignMinus x ≡ isSignMinus y → T (eq x y) → x ≡ y
-unfolding eq isSignMinus
-one-value f nan y F G p h = absurd h
-one-value f (inf s) nan F G p h = absurd h
-one-value f (inf s) (inf t) F G p h = ap inf p
-one-value f (inf s) (fin t n d) F G p h = absurd h
-one-value f (fin s m e) nan F G p h = absurd h
-one-value f (fin s m e) (inf t) F G p h = absurd h
-one-value f (fin s m e) (fin t n d) F G p h =
-    let a = m * up e * down d in
-    let b = n * up d * down e in
-    sym (ofBits-toBits f (fin s m e) F)
-    ∙ ap (ofBits f) (ap (λ (u : Bool). toBits f (fin u m e)) p ∙ same-bits f t m n e d (eqb→eq a b (and-l (eqb a b) (Bool·beq s t || eqb a 0) h)))
-    ∙ ofBits-toBits f (fin t n d) G
-
 -- ---- a / c less b / c, and a / c and b / c together
 module _ (f : Format) (a b c : ℕ) (C : 0 < c) (p : T (above (round f false (a + b) c))) where
   abbrev less : Float
@@ -108,8 +92,8 @@ module _ (f : Format) (a b c : ℕ) (C : 0 < c) (p : T (above (round f false (a 
       go true = rw (minus-lt (round f true (b - a) c) more (round-sign f true (b - a) c) p)
       go false =
           chosen (lt (round f false (a - b) c) more) (round f false (a - b) c) (λ h.
-          one-value f (round f false (a - b) c) more (round-fits f false (a - b) c) (round-fits f false (a + b) c)
-          (round-sign f false (a - b) c ∙ sym (round-sign f false (a + b) c)) (rw h at no-larger))
+          equal-value f (round f false (a - b) c) more (round-fits f false (a - b) c) (round-fits f false (a + b) c) (is-true _ (rw h at no-larger))
+          (round-sign f false (a - b) c ∙ sym (round-sign f false (a + b) c)))
 
 -- ---- the two laws
 

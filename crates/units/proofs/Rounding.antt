@@ -1,34 +1,31 @@
 -- A fraction in the normal range is rounded to within one part in 2 ^ p of itself, where the format keeps p digits. Assumes nothing.
 use mathlib.Core.Path.{_≡_, ap, _∙_, subst}
-use mathlib.Core.Bool.{not}
-use Prim.Native.Nat.{ℕ, suc, _+_, _-_, _*_, _/_, _%_, _^_, _≤_, _<_, compare, Ordering, Ordering·lt, Ordering·eq, Ordering·gt}
+use Prim.Native.Nat.{ℕ, suc, _+_, _-_, _*_, _/_, _%_, _^_, _≤_, _<_, compare}
 use native.Mathlib.Nat.{le-trans, le-of-eq, mul-comm, mul-assoc, mul-left-comm, mul-le-mul-left, mul-le-mul-right, mul-pos, mul-add, add-mul, suc-mul, pow-suc}
 use native.Mathlib.Nat.{mod-lt, div-add-mod', le-div-iff-mul-le}
 use native.Mathlib.Omega.{arith}
-use lib.Dec.{T, isLe, isEq, leb→le, nleb→lt, eqb→eq}
 use lib.Pow.{pow-add, pow-pos}
 use lib.Ieee.{nearest, size}
 use lib.Ieee.Digits.{size-reaches}
 use lib.Ieee.Nearest.{closest}
 use lib.Ieee.Order.{drop, kept}
+use Rattle.ieee754.proofs.Numbers.{nearest-by}
 
 -- ---- the nearest whole number is at most a half away: n * u lies within u / 2 of a
 abbrev Half : (n u a : ℕ) → Type 0
 Half n u a = (n * u * 2 ≤ a * 2 + u) × (a * 2 ≤ n * u * 2 + u)
 
--- w whole units and a remainder r, which o compares with a half
-half : (w r u : ℕ) (o : Ordering) → r < u → (T (isLe o) → r * 2 ≤ u) → (T (not (isLe o)) → u < r * 2) → (T (isEq o) → r * 2 ≡ u) → Half (nearest w o) u (w * u + r)
-half w r u Ordering·lt below less more tie = let h : r * 2 ≤ u = less tt in (omega arith, omega arith)
-half w r u Ordering·gt below less more tie = let h : u < r * 2 = more tt in rw (suc-mul w u) (omega arith, omega arith)
-half w r u Ordering·eq below less more tie = even (w % 2) (mod-lt w (pow-pos 1)) (tie tt)
+-- w whole units and a remainder r
+half : (w r u : ℕ) → r < u → Half (nearest w (compare (r * 2) u)) u (w * u + r)
+half w r u below =
+    nearest-by (λ n. Half n u (w * u + r)) w (r * 2) u (λ less. (omega arith, omega arith)) (even (w % 2) (mod-lt w (pow-pos 1)))
+    (λ more. rw (suc-mul w u) (omega arith, omega arith))
   where
     even : (p : ℕ) → p < 2 → r * 2 ≡ u → Half (w + p) u (w * u + r)
     even p h e = let t : p * u ≤ 1 * u = mul-le-mul-right u (omega arith) in rw (add-mul w p u) (omega arith, omega arith)
 
 closest-half : (a u : ℕ) → 0 < u → Half (closest a u) u a
-closest-half a u U =
-    subst (λ (x : ℕ). Half (closest a u) u x) (div-add-mod' a u)
-    (half (a / u) (a % u) u (compare (a % u * 2) u) (mod-lt a U) (leb→le (a % u * 2) u) (nleb→lt (a % u * 2) u) (eqb→eq (a % u * 2) u))
+closest-half a u U = subst (λ (x : ℕ). Half (closest a u) u x) (div-add-mod' a u) (half (a / u) (a % u) u (mod-lt a U))
 
 -- ---- a number of p digits in units of u is off by u / 2, which is one part in 2 ^ p
 digits : (z p : ℕ) → 0 < p → p ≤ z → p - 1 + (z - p) < z

@@ -1,45 +1,15 @@
 -- The order of the operations of IEEE 754-2019, 9.6, in which -0 comes before +0, by the tests that a program makes, at either width. Assumes nothing.
 use borrow.Author.Tests.{not-false, lt-ltb, le-ltb, leb-true, leb-false}
-use mathlib.Core.Path.{_≡_, refl, sym, _∙_, subst}
-use mathlib.Core.Bool.{Bool, true, false, not, cond, _&&_, _||_, Bool·beq, false≢true}
-use Prim.Native.Nat.{ℕ, _*_}
+use mathlib.Core.Path.{_≡_, refl, sym, _∙_}
+use mathlib.Core.Bool.{Bool, true, false, not, cond, _&&_}
 use native.Mathlib.Nat.{le-of-eq, le-of-lt, lt-of-lt-of-le}
-use lib.IntN.{ℤ}
-use lib.Dec.{T, leb, ltb, eqb, eqb→eq}
-use lib.Ieee.{Float, nan, inf, fin, Format, fits, up, down, isNan, lt, eq, ne, toBits, top}
-use lib.Ieee.Fits.{and-l}
+use lib.Dec.{T, leb, ltb}
+use lib.Ieee.{Float, Format, fits, isNan, lt, eq, ne, toBits, top}
 use Rattle.ieee754.specs.Operations.{isSignMinus, precedes, minimumNumber, maximumNumber}
+use Rattle.ieee754.proofs.Equal.{equal-numbers, equal-bits}
 use Rattle.ieee754.proofs.Fields.{nan-test, sign-bit}
-use Rattle.ieee754.proofs.Units.{same-bits}
 
--- numbers that are equal are one infinity, or two equal fractions
-by-equal : (P : Float → Float → Type 0) → ((s : Bool) → P (inf s) (inf s))
-    → ((s t : Bool) (m n : ℕ) (e d : ℤ) → m * up e * down d ≡ n * up d * down e → P (fin s m e) (fin t n d)) → (x y : Float) → eq x y ≡ true → P x y
-unfolding eq
-by-equal P i f nan y h = absurd (false≢true h)
-by-equal P i f (inf s) nan h = absurd (false≢true h)
-by-equal P i f (inf true) (inf true) h = i true
-by-equal P i f (inf true) (inf false) h = absurd (false≢true h)
-by-equal P i f (inf false) (inf true) h = absurd (false≢true h)
-by-equal P i f (inf false) (inf false) h = i false
-by-equal P i f (inf s) (fin t n d) h = absurd (false≢true h)
-by-equal P i f (fin s m e) nan h = absurd (false≢true h)
-by-equal P i f (fin s m e) (inf t) h = absurd (false≢true h)
-by-equal P i f (fin s m e) (fin t n d) h =
-    let a = m * up e * down d in
-    let b = n * up d * down e in
-    f s t m n e d (eqb→eq a b (and-l (eqb a b) (Bool·beq s t || eqb a 0) (subst T (sym h) tt)))
-
-pub equal-numbers : (x y : Float) → eq x y ≡ true → T (not (isNan x)) × T (not (isNan y))
-unfolding isNan
-equal-numbers = by-equal (λ x y. T (not (isNan x)) × T (not (isNan y))) (λ s. (tt, tt)) (λ s t m n e d h. (tt, tt))
-
--- with one sign they have one pattern
-equal-bits : (f : Format) (x y : Float) → eq x y ≡ true → isSignMinus x ≡ isSignMinus y → toBits f x ≡ toBits f y
-unfolding isSignMinus
-equal-bits f = by-equal (λ x y. isSignMinus x ≡ isSignMinus y → toBits f x ≡ toBits f y) (λ s e. refl) (λ s t m n e d h p. rw p (same-bits f t m n e d h))
-
--- and of two signs the negative one has the larger
+-- of equal numbers of two signs the negative one has the larger pattern
 module _ (f : Format) (x y : Float) (F : T (fits f x)) (G : T (fits f y)) (h : eq x y ≡ true) where
   at-x : isSignMinus x ≡ leb (top f) (toBits f x)
   at-x = sign-bit f x F (equal-numbers x y h .0)

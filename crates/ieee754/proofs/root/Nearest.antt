@@ -9,14 +9,14 @@ use native.Mathlib.Omega.{arith}
 use lib.IntN.{ℤ}
 use lib.Dec.{T, ltb→lt, lt→ltb}
 use lib.Pow.{pow-add, pow-pos, pow-mono}
-use lib.Ieee.{Float, nan, inf, fin, Format, prec, emax, low, up, down, units, fits, lt, hid, ofBits}
-use lib.Ieee.Bits.{ofBits-toBits}
+use lib.Ieee.{Float, nan, inf, fin, Format, prec, emax, low, up, down, units, fits, lt, hid}
 use lib.Ieee.Digits.{back}
 use lib.Ieee.Exact.{HasValue, units-val}
 use lib.Ieee.Fits.{nearest-le}
 use lib.Ieee.Nearest.{nearest-ge}
 use lib.Ieee.Positive.{num, den, positive, den-pos, value→cross, positive-of-value, value-pos}
 use Rattle.ieee754.specs.Root.{sqrt, total, RootBelowMiddle, RootAboveMiddle, NearestRoot}
+use Rattle.ieee754.proofs.Fields.{one-value}
 use Rattle.ieee754.proofs.Formats.{twice-hid, emax-two}
 use Rattle.ieee754.proofs.Numbers.{sq-lt-back, nearest-by}
 use Rattle.ieee754.proofs.Units.{InUnits, amount, in-units, units-fit, same-bits}
@@ -196,4 +196,4 @@ nearest-unique f x (fin false m e) (inf t) R S = absurd (S .number)
 nearest-unique f x (fin false m e) (fin true n d) R S = absurd (S .number)
 nearest-unique f x (fin false m e) (fin false n d) R S =
     let level : m * up e * down d ≡ n * up d * down e = omega (arith, not-less f x m n e d R S, not-less f x n m d e S R) in
-    sym (ofBits-toBits f (fin false m e) (R .held)) ∙ ap (ofBits f) (same-bits f false m n e d level) ∙ ofBits-toBits f (fin false n d) (S .held)
+    one-value f (fin false m e) (fin false n d) (R .held) (S .held) (same-bits f false m n e d level)

@@ -5,8 +5,8 @@ use native.Mathlib.Omega.{arith}
 use lib.Ieee.{Float, binary32, neg}
 use Rattle.ieee754.specs.Single.{_⊕_, _⊖_, _⊗_, decimal}
 use Rattle.ieee754.proofs.Bounds.{mul-bound, add-bound, neg-bound, whole-bound}
-use Rattle.refusal.specs.Refusal.{KnobIn, isBlockLength}
-use Rattle.refusal.proofs.Laws.{passed, knobs-passed}
+use Rattle.refusal.specs.Refusal.{KnobIn}
+use Rattle.refusal.proofs.Laws.{block-passed}
 use Rattle.refusal.proofs.Knobs.{unit-bound, times, decay-xt}
 use Rattle.units.specs.Units.{ratio, semitonesToRatio, unwrapOr}
 use Rattle.units.proofs.InRange.{in-range}
@@ -14,9 +14,7 @@ use Rattle.analog_snare_drum.specs.AnalogSnareDrum.{renderRefusal}
 
 pub knobs-in : (size : ℕ) (accent f0 tone decay snappy : Float) → renderRefusal size accent f0 tone decay snappy ≡ 0 → KnobIn decay × KnobIn snappy
 unfolding renderRefusal
-knobs-in size accent f0 tone decay snappy h =
-    let k = knobs-passed f0 accent tone decay snappy _ (passed (isBlockLength size) 2 _ (omega arith) h .1) in
-    (k .second, k .third)
+knobs-in size accent f0 tone decay snappy h = let k = block-passed size f0 accent tone decay snappy _ h .1 in (k .decay-in, k .c-in)
 
 -- the pitches: from 0 to 84 semitones, and from -60 to 0
 module _ (decay snappy other : Float) (d : KnobIn decay) (s : KnobIn snappy) where

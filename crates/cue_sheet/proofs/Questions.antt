@@ -5,13 +5,13 @@ use mathlib.Core.Path.{_≡_, refl, sym, ap, _∙_}
 use mathlib.Core.Bool.{Bool, true, false, cond}
 use mathlib.Core.List.{List, _∷_}
 use lib.Dec.{ltb, leb}
-use lib.Ieee.{Float}
 use borrow.Author.Tests.{lt-ltb, ltb-true, leb-true}
-use Rattle.refusal.specs.Refusal.{KnobIn, number, answerNumber, isFrequency, isUnit}
+use Rattle.refusal.specs.Refusal.{number, answerNumber}
 use Rattle.refusal.specs.declared.Refusal.{Refusal}
 use Rattle.refusal.specs.declared.Answer.{Answer}
 use Rattle.refusal.specs.declared.Answer.the-variants.{Refused}
-use Rattle.refusal.proofs.Laws.{passed, arm-refused}
+use Rattle.refusal.proofs.Laws.{passed, knobs-passed, arm-refused}
+pub use Rattle.refusal.proofs.Laws.{KnobsIn}
 use Rattle.cue_sheet.specs.CueLine.{strike, refused, answered, float, cueOf, knobsRefusal, fieldsRefusal, readFields, onFields, readCue}
 use Rattle.cue_sheet.specs.Sheet.{onCue, strikesOf}
 use Rattle.cue_sheet.specs.declared.Cue.{Cue}
@@ -23,15 +23,7 @@ use Rattle.cue_sheet.specs.declared.CueFields.{CueFields}
 use Rattle.cue_sheet.specs.declared.Fields.{Fields}
 use Rattle.cue_sheet.specs.declared.Fields.the-variants.{Read, Malformed}
 
--- five knobs that have passed their questions
-pub record KnobsIn (accent f0 a decay c : Float) : Type 0 where
-  pub frequency : isFrequency f0 ≡ true
-  pub accent-in : KnobIn accent
-  pub a-in : KnobIn a
-  pub decay-in : KnobIn decay
-  pub c-in : KnobIn c
-
--- those of a cue
+-- the knobs of a cue, each of which has passed its question
 abbrev pub KnobsOf : Cue → Type 0
 KnobsOf (Bass accent f0 tone decay attackFmAmount) = KnobsIn accent f0 tone decay attackFmAmount
 KnobsOf (Snare accent f0 tone decay snappy) = KnobsIn accent f0 tone decay snappy
@@ -40,18 +32,7 @@ KnobsOf (Hihat accent f0 tone decay noisiness) = KnobsIn accent f0 tone decay no
 
 pub knobs-in : (k : Patterns) → knobsRefusal k ≡ 0 → KnobsIn (float (k .accent)) (float (k .f0)) (float (k .a)) (float (k .decay)) (float (k .c))
 unfolding knobsRefusal
-knobs-in k h =
-    let third = passed (isFrequency (float (k .f0))) 3 _ (omega arith) h in
-    let fourth = passed (isUnit (float (k .accent))) 4 _ (omega arith) (third .1) in
-    let a = passed (isUnit (float (k .a))) 5 _ (omega arith) (fourth .1) in
-    let decay = passed (isUnit (float (k .decay))) 5 _ (omega arith) (a .1) in
-    record {
-      frequency = third .0;
-      accent-in = fourth .0;
-      a-in = a .0;
-      decay-in = decay .0;
-      c-in = passed (isUnit (float (k .c))) 5 0 (omega arith) (decay .1) .0;
-    }
+knobs-in k h = knobs-passed _ _ _ _ _ 0 h
 
 cue-knobs : (v : Voice) (k : Patterns) → knobsRefusal k ≡ 0 → KnobsOf (cueOf v k)
 unfolding cueOf
@@ -83,8 +64,8 @@ fields-passed length leastStart f h =
     let rising = passed (leb leastStart (f .start)) 9 _ (omega arith) (below .1) in
     (ltb-true (f .start) length (below .0), leb-true leastStart (f .start) (rising .0), rising .1)
 
-pub knobs-passed : (length leastStart : ℕ) (f : CueFields) → fieldsRefusal length leastStart f ≡ 0 → knobsRefusal (f .patterns) ≡ 0
-knobs-passed length leastStart f h = fields-passed length leastStart f h .2
+pub line-knobs : (length leastStart : ℕ) (f : CueFields) → fieldsRefusal length leastStart f ≡ 0 → knobsRefusal (f .patterns) ≡ 0
+line-knobs length leastStart f h = fields-passed length leastStart f h .2
 
 -- ---- a line that stands for a cue has passed every question
 pub record Passed (length cues leastStart : ℕ) (line : List ℕ) (start : ℕ) (cue : Cue) : Type 0 where

@@ -1,5 +1,5 @@
 -- The loop over the renders of a voice: `while i < n { .. render .. trigger = false; i += 1; }`. Assumes nothing.
-use Prim.Native.Nat.{ℕ, zero, suc, _+_, _-_, _≤_, _<_}
+use Prim.Native.Nat.{ℕ, suc, _+_, _-_, _≤_, _<_}
 use native.Mathlib.Nat.{sub-zero}
 use native.Mathlib.Omega.{arith}
 use mathlib.Core.Path.{_≡_, refl, _∙_}
@@ -7,6 +7,7 @@ use mathlib.Core.Bool.{Bool, true, false}
 use mathlib.Core.List.{List}
 use lib.ListN.{length}
 use lib.Ieee.{Float}
+use Rattle.refusal.proofs.Laws.{old-kept}
 use Rattle.exports.specs.Voices.{Called, called, rendered, played}
 
 -- i of n renders after the call c₀ are done, and left c: with those that are still to come it is what n renders leave
@@ -33,8 +34,7 @@ module _ {Voice : Type 0} (render : Bool → Called Voice → Called Voice) (n :
 -- ---- after an `init` that answered m: the answer r and the buffer where it is refused, and where it is not
 module _ {Voice : Type 0} (render : Bool → Called Voice → Called Voice) (n : ℕ) (voice : Voice) (noise : ℕ) (out : List Float) where
   pub refused-init : (r m : ℕ) → r ≡ m → (r ≡ 0 → ⊥) → let c = played render n (called voice noise m out) in (r ≡ c .number) × (out ≡ c .out)
-  refused-init r zero e h = absurd (h e)
-  refused-init r (suc m) e h = (e, refl)
+  refused-init r m e h = rw (old-kept m (rendered render n true (called voice noise m out)) (called voice noise m out) (λ z. h (e ∙ z))) (e, refl)
 
   pub accepted-init : (m : ℕ) → m ≡ 0 → (v : Voice) → v ≡ voice → (r : ℕ) (o : List Float)
       → let c = rendered render n true (called v noise 0 out) in (r ≡ c .number) × (o ≡ c .out)

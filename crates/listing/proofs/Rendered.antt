@@ -16,24 +16,11 @@ use Rattle.text.proofs.Digits.{pattern-length}
 use Rattle.text.proofs.Places.{decimal-length}
 use Rattle.refusal.specs.Refusal.{number}
 use Rattle.refusal.specs.declared.Refusal.{Refusal}
-use Rattle.refusal.specs.declared.Refusal.the-variants.{SampleRate, BlockLength, Frequency, Accent, Knob, Pitch, FirstLine, CueLine, CueStart, CueCount, BufferLength}
+use Rattle.refusal.proofs.Laws.{refused}
 use Rattle.text.specs.Write.{Written, Whole, ascii}
 use Rattle.text.proofs.Written.{whole}
 use Rattle.listing.specs.Cues.{row, rows, answer, text}
 use Rattle.listing.specs.Refused as Refused
-
-number-below : (r : Refusal) → number r < 100
-number-below SampleRate = omega arith
-number-below BlockLength = omega arith
-number-below Frequency = omega arith
-number-below Accent = omega arith
-number-below Knob = omega arith
-number-below Pitch = omega arith
-number-below FirstLine = omega arith
-number-below CueLine = omega arith
-number-below CueStart = omega arith
-number-below CueCount = omega arith
-number-below BufferLength = omega arith
 
 row-length : (n : ℕ) (x : Float) → n < 100000 → List.length (row n x) ≤ 15
 unfolding row
@@ -88,5 +75,5 @@ module _ (sheet : List ℕ) (buffer : List Float) (size : List.length buffer ≡
   unfolding text answer Refused.text
   refused-line refusal {line = line} known below {out = out} room w =
       let fits : List.length (Refused.text (number refusal) line) ≤ List.length out =
-      simp length-append (omega (arith, decimal-length 1 (number refusal) (number-below refusal), decimal-length 9 line below)) in
+      simp length-append (omega (arith, decimal-length 1 (number refusal) (omega (arith, refused refusal .1)), decimal-length 9 line below)) in
       rw (sym same-answer ∙ known) (whole w fits)

@@ -2,15 +2,16 @@
 use mathlib.Core.Path.{_≡_, refl, sym, ap, _∙_}
 use mathlib.Core.Bool.{Bool, true, false}
 use mathlib.Core.List.{[], _∷_}
-use Prim.Native.Nat.{ℕ, zero, suc, _<_}
+use Prim.Native.Nat.{ℕ, zero, suc, _≤_, _<_}
 use native.Mathlib.Omega.{arith}
 use lib.ListN.{getD}
 use lib.Ieee.{Float}
+use borrow.Author.Tests.{leb-true}
 use Rattle.refusal.specs.declared.Refusal.{Refusal}
 use Rattle.refusal.specs.declared.Refusal.the-variants.{SampleRate, BlockLength, Frequency, Accent, Knob, Pitch, FirstLine, CueLine, CueStart, CueCount, BufferLength}
 use Rattle.refusal.specs.declared.Answer.{Answer}
 use Rattle.refusal.specs.declared.Answer.the-variants.{Accepted, Refused}
-use Rattle.refusal.specs.Refusal.{number, answerNumber, unlessRefused, ask, isFrequency, isUnit, askKnobs, KnobIn}
+use Rattle.refusal.specs.Refusal.{number, answerNumber, unlessRefused, ask, isBlockLength, isFrequency, isUnit, askKnobs, KnobIn}
 
 -- an answer is known by its number
 answerOf : ℕ → Answer
@@ -49,8 +50,8 @@ back (Refused BufferLength) = refl
 pub known-by-number : (a b : Answer) → answerNumber a ≡ answerNumber b → a ≡ b
 known-by-number a b e = sym (back a) ∙ ap answerOf e ∙ back b
 
--- a refusal's number is not 0, so an answer of number 0 is an accepted one
-pub refused : (r : Refusal) → 0 < number r
+-- a refusal's number is not 0, so an answer of number 0 is an accepted one; the highest is 11
+pub refused : (r : Refusal) → (0 < number r) × (number r ≤ 11)
 refused SampleRate = omega arith
 refused BlockLength = omega arith
 refused Frequency = omega arith
@@ -67,36 +68,44 @@ refused BufferLength = omega arith
 pub zero-of : (a : Answer) (n : ℕ) → answerNumber a ≡ n → a ≡ Accepted → n ≡ 0
 zero-of a n known e = sym known ∙ ap answerNumber e
 
+-- a call of any other number leaves the value as it was
+pub old-kept : {A : Type 0} (n : ℕ) (new old : A) → (n ≡ 0 → ⊥) → unlessRefused n new old ≡ old
+old-kept zero new old h = absurd (h refl)
+old-kept (suc n) new old h = refl
+
 -- the two arms of a `match` on an answer a whose number is n
 module _ {A : Type 0} (new old : A) (a : Answer) (n : ℕ) (known : answerNumber a ≡ n) where
   pub arm-accepted : a ≡ Accepted → unlessRefused n new old ≡ new
   arm-accepted e = rw (zero-of a n known e)
 
   pub arm-refused : (r : Refusal) → a ≡ Refused r → unlessRefused n new old ≡ old
-  arm-refused r e = go n (rw (e) at known) (refused r)
-    where
-      go : (n : ℕ) → number r ≡ n → 0 < number r → unlessRefused n new old ≡ old
-      go zero k p = absurd (omega arith)
-      go (suc n) k p = refl
+  arm-refused r e = let k : number r ≡ n = rw e at known in old-kept n new old (λ z. omega (arith, refused r .0))
 
 -- a nest of questions gives 0 exactly where each is passed
 pub passed : (q : Bool) (n next : ℕ) → 0 < n → ask q n next ≡ 0 → (q ≡ true) × (next ≡ 0)
 passed true n next p h = (refl, h)
 passed false n next p h = absurd (omega arith)
 
-pub record KnobsPassed (f0 accent a b c : Float) (next : ℕ) : Type 0 where
+-- five knobs that have passed their questions
+pub record KnobsIn (accent f0 a decay c : Float) : Type 0 where
   pub frequency : isFrequency f0 ≡ true
-  pub accents : KnobIn accent
-  pub first : KnobIn a
-  pub second : KnobIn b
-  pub third : KnobIn c
-  pub rest : next ≡ 0
+  pub accent-in : KnobIn accent
+  pub a-in : KnobIn a
+  pub decay-in : KnobIn decay
+  pub c-in : KnobIn c
 
-pub knobs-passed : (f0 accent a b c : Float) (next : ℕ) → askKnobs f0 accent a b c next ≡ 0 → KnobsPassed f0 accent a b c next
-knobs-passed f0 accent a b c next h =
-    let f = passed (isFrequency f0) 3 _ (omega arith) h in
-    let s = passed (isUnit accent) 4 _ (omega arith) (f .1) in
-    let x = passed (isUnit a) 5 _ (omega arith) (s .1) in
-    let y = passed (isUnit b) 5 _ (omega arith) (x .1) in
+pub knobs-passed : (f0 accent a decay c : Float) (next : ℕ) → askKnobs f0 accent a decay c next ≡ 0 → KnobsIn accent f0 a decay c
+knobs-passed f0 accent a decay c next h =
+    let third = passed (isFrequency f0) 3 _ (omega arith) h in
+    let fourth = passed (isUnit accent) 4 _ (omega arith) (third .1) in
+    let x = passed (isUnit a) 5 _ (omega arith) (fourth .1) in
+    let y = passed (isUnit decay) 5 _ (omega arith) (x .1) in
     let z = passed (isUnit c) 5 _ (omega arith) (y .1) in
-    record { frequency = f .0; accents = s .0; first = x .0; second = y .0; third = z .0; rest = z .1 }
+    record { frequency = third .0; accent-in = fourth .0; a-in = x .0; decay-in = y .0; c-in = z .0 }
+
+-- and the length of the block before them
+pub block-passed : (size : ℕ) (f0 accent a decay c : Float) (next : ℕ) → ask (isBlockLength size) 2 (askKnobs f0 accent a decay c next) ≡ 0
+    → (size ≤ 16384) × KnobsIn accent f0 a decay c
+block-passed size f0 accent a decay c next h =
+    let second = passed (isBlockLength size) 2 _ (omega arith) h in
+    (leb-true _ _ (second .0), knobs-passed f0 accent a decay c next (second .1))

@@ -1,4 +1,5 @@
-pub mod Digests
-pub mod Places
-pub mod Refusals
-pub mod Rows
+-- The laws of `replay` beside the proofs of its functions.
+mod Digests
+mod Places
+mod Played
+mod Rows

@@ -1,13 +1,12 @@
 -- What the questions of `render` show: the length and the knobs of an accepted call lie between their bounds, so both pitches lie in the tables. Assumes nothing.
-use borrow.Author.Tests.{leb-true}
 use mathlib.Core.Path.{_≡_}
 use Prim.Native.Nat.{ℕ, _≤_}
 use native.Mathlib.Omega.{arith}
 use lib.Ieee.{Float, binary32, neg}
 use Rattle.ieee754.specs.Single.{_⊕_, _⊖_, _⊗_, decimal}
 use Rattle.ieee754.proofs.Bounds.{add-bound, sub-bound}
-use Rattle.refusal.specs.Refusal.{KnobIn, isSampleRate, isBlockLength}
-use Rattle.refusal.proofs.Laws.{passed, knobs-passed}
+use Rattle.refusal.specs.Refusal.{KnobIn, isSampleRate}
+use Rattle.refusal.proofs.Laws.{passed, block-passed}
 use Rattle.refusal.proofs.Knobs.{unit-bound, times, minus-times, product, decay-xt}
 use Rattle.units.specs.Units.{ratio, semitonesToRatio, unwrapOr}
 use Rattle.units.proofs.InRange.{in-range}
@@ -21,9 +20,8 @@ pub bounds-in : (rate : Float) (size : ℕ) (accent f0 fmAmount decay snappy : F
     → (size ≤ 16384) × KnobsIn fmAmount decay snappy
 unfolding renderRefusal
 bounds-in rate size accent f0 fmAmount decay snappy h =
-    let s = passed (isBlockLength size) 2 _ (omega arith) (passed (isSampleRate rate) 1 _ (omega arith) h .1) in
-    let k = knobs-passed f0 accent fmAmount decay snappy _ (s .1) in
-    (leb-true _ _ (s .0), (k .first, (k .second, k .third)))
+    let b = block-passed size f0 accent fmAmount decay snappy _ (passed (isSampleRate rate) 1 _ (omega arith) h .1) in
+    (b .0, (b .1 .a-in, (b .1 .decay-in, b .1 .c-in)))
 
 -- the pitches of both decays
 module _ (fmAmount decay snappy other : Float) (knobs : KnobsIn fmAmount decay snappy) where

@@ -3,7 +3,7 @@ use mathlib.Core.Path.{sym, _∙_}
 use borrow.Author.Tests.{le-ltb, lt-ltb}
 use Rattle.refusal.proofs.Laws.{zero-of}
 use Rattle.cue_sheet.specs.CueLine.{onFields, readCue}
-use Rattle.cue_sheet.proofs.Questions.{knobs-passed, line-refused, line-accepted}
+use Rattle.cue_sheet.proofs.Questions.{line-knobs, line-refused, line-accepted}
 use borrow.Author.Needs.{needs}
 use Rattle.cue_sheet.proofs.read_cue.Statement.{statement}
 use Rattle.cue_sheet.proofs.read_cue.Tie as tie
@@ -35,7 +35,7 @@ enum-told-2 : tie.Need-enum-told-2
 enum-told-2 c = search needs
 
 cue-of-requires : tie.Need-cue-of-requires
-cue-of-requires c κs = knobs-passed _ _ _ (zero-of _ _ (c .before .before .before .asked .ensures) (c .before .enum-told2 .given .1))
+cue-of-requires c κs = line-knobs _ _ _ (zero-of _ _ (c .before .before .before .asked .ensures) (c .before .enum-told2 .given .1))
 
 returns-3 : tie.Need-returns-3
 returns-3 c =

@@ -16,13 +16,13 @@ enum-told-2 : tie.Need-enum-told-2
 enum-told-2 c = search needs
 
 block-settings-requires : tie.Need-block-settings-requires
-block-settings-requires c κs = accepted _ _ _ _ _ _ _ (zero-of _ _ (c .before .before .asked .ensures) (c .enum-told2 .given .1)) .decay-in
+block-settings-requires c κs = accepted _ _ _ _ _ _ _ (zero-of _ _ (c .before .before .asked .ensures) (c .enum-told2 .given .1)) .1 .decay-in
 
 begun-requires : tie.Need-begun-requires
 begun-requires c κs =
     let m = c .before in
     let a = accepted _ _ _ _ _ _ _ (zero-of _ _ (m .before .before .asked .ensures) (m .enum-told2 .given .1)) in
-    (a .tone-in, a .short)
+    (a .1 .a-in, a .0)
 
 run-requires : tie.Need-run-requires
 run-requires c κs = search needs

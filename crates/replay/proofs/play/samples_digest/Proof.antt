@@ -1,6 +1,6 @@
 -- `replay::play::samples_digest` meets its contract. Assumes nothing.
 use mathlib.Core.Path.{sym}
-use Rattle.replay.proofs.Refusals.{refused-old}
+use Rattle.refusal.proofs.Laws.{old-kept}
 use borrow.Author.Needs.{needs}
 use Rattle.replay.proofs.play.samples_digest.Statement.{statement}
 use Rattle.replay.proofs.play.samples_digest.Tie as tie
@@ -12,7 +12,7 @@ returns : tie.Need-returns
 returns c = rw (c .before .if1 .taken, c .floats .ensures)
 
 returns-2 : tie.Need-returns-2
-returns-2 c = sym (refused-old _ _ _ (c .if1 .left))
+returns-2 c = sym (old-kept _ _ _ (c .if1 .left))
 
 pub samples-digest-spec : {M : Type 1} → statement M
 samples-digest-spec = tie.close (tie.spec floats-requires returns returns-2)

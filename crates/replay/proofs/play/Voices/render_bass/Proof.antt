@@ -1,7 +1,7 @@
 -- `replay::play::Voices::render_bass` meets its contract. Assumes nothing.
 use mathlib.Core.Path.{refl, ap₂, _∙_}
 use Rattle.replay.specs.Play.{samplesDigest, withBass, renderBass}
-use Rattle.replay.proofs.Refusals.{same-played}
+use Rattle.replay.proofs.Played.{same-played}
 use borrow.Author.Needs.{needs}
 use Rattle.replay.proofs.play.Voices.render_bass.Statement.{statement}
 use Rattle.replay.proofs.play.Voices.render_bass.Tie as tie

@@ -1,7 +1,7 @@
 -- `replay::play::Voices::render_hihat` meets its contract. Assumes nothing.
 use mathlib.Core.Path.{ap₂, _∙_}
 use Rattle.replay.specs.Play.{samplesDigest, withHihat, renderHihat}
-use Rattle.replay.proofs.Refusals.{same-played}
+use Rattle.replay.proofs.Played.{same-played}
 use borrow.Author.Needs.{needs}
 use Rattle.replay.proofs.play.Voices.render_hihat.Statement.{statement}
 use Rattle.replay.proofs.play.Voices.render_hihat.Tie as tie

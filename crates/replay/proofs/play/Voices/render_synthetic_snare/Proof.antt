@@ -1,7 +1,7 @@
 -- `replay::play::Voices::render_synthetic_snare` meets its contract. Assumes nothing.
 use mathlib.Core.Path.{ap₂, _∙_}
 use Rattle.replay.specs.Play.{samplesDigest, withSyntheticSnare, renderSyntheticSnare}
-use Rattle.replay.proofs.Refusals.{same-played}
+use Rattle.replay.proofs.Played.{same-played}
 use borrow.Author.Needs.{needs}
 use Rattle.replay.proofs.play.Voices.render_synthetic_snare.Statement.{statement}
 use Rattle.replay.proofs.play.Voices.render_synthetic_snare.Tie as tie

@@ -1,8 +1,7 @@
 -- A not-a-number passes no question. Assumes nothing.
 use Prim.Native.Nat.{ℕ}
-use native.Mathlib.Omega.{arith}
-use mathlib.Core.Path.{_≡_, refl}
-use mathlib.Core.Bool.{Bool, true, false, not}
+use mathlib.Core.Path.{_≡_, refl, sym, _∙_}
+use mathlib.Core.Bool.{Bool, true, false, not, false≢true}
 use lib.Dec.{T}
 use lib.Ieee.{Float, nan, binary32, le, round, ofBits, nanBits}
 use Rattle.ieee754.proofs.NotANumber.{nan-of}
@@ -22,7 +21,4 @@ passed-number q none bits h = go (nanBits binary32 bits) refl
   where
     go : (t : Bool) → nanBits binary32 bits ≡ t → T (not t)
     go false e = tt
-    go true e =
-        let never : q nan ≡ true = rw (nan-of bits e) at h in
-        let z : _≡_ {A = ℕ} 0 1 = cc in
-        absurd (omega arith)
+    go true e = absurd (false≢true (sym none ∙ rw (nan-of bits e) at h))

@@ -4,7 +4,7 @@ use native.Mathlib.Nat.{le-of-suc-le-suc, not-suc-le-zero}
 use native.Mathlib.Omega.{arith}
 use native.Mathlib.Decide.{decLt}
 use mathlib.Core.Path.{_≡_, refl, sym, ap, _∙_}
-use mathlib.Core.Bool.{Bool, true, false, cond}
+use mathlib.Core.Bool.{Bool, true, false, cond, false≢true}
 use mathlib.Core.List.{List, [], _∷_, _++_}
 use lib.Dec.{eqb}
 use lib.ListN.{length, getD, take, drop, drop-of-length-le, length-append, length-drop}
@@ -22,7 +22,7 @@ ended-line line =
 
 pub line-ended : (text : List ℕ) → ended text ≡ true → text ≡ body text ++ (10 ∷ [])
 unfolding ended body
-line-ended [] h = let z : _≡_ {A = ℕ} 0 1 = cc in absurd (omega arith)
+line-ended [] h = absurd (false≢true h)
 line-ended (x ∷ xs) h =
     let last = length (x ∷ xs) - 1 in
     let over : length (x ∷ xs) ≤ suc last = omega arith in

@@ -5,7 +5,7 @@ use native.Mathlib.Nat.{mod-lt, mod-one, mod-eq-of-lt, div-one, div-div-eq-div-m
 use native.Mathlib.Omega.{arith}
 use native.Mathlib.Decide.{decLt}
 use mathlib.Core.Path.{_≡_, refl, sym, ap, _∙_}
-use mathlib.Core.Bool.{Bool, true, false, not, cond}
+use mathlib.Core.Bool.{Bool, true, false, not, cond, false≢true}
 use mathlib.Core.List.{List, [], _∷_}
 use lib.Arith.{mod-mul, digits-div, digits-mod}
 use lib.Dec.{ltb, leb, eqb}
@@ -17,7 +17,6 @@ use Rattle.text.specs.Write as Write
 use Rattle.text.specs.Write.{digits, places}
 use Rattle.text.specs.declared.read.Number.{Number}
 use Rattle.text.specs.declared.read.Number.the-variants.{Value, Invalid}
-use Rattle.text.proofs.Digits.{digits-length}
 use Rattle.text.proofs.Places.{one-place, places-hold, places-are}
 
 no-value : {C : Type 0} {n : ℕ} → Invalid ≡ Value n → C
@@ -116,10 +115,6 @@ decimal-back limit n h =
     written-digits 10 (omega arith) (omega arith) (places n) n 0 ∙ ap Value (rw (zero-mul, zero-add) (mod-eq-of-lt (places-hold n .0))) in
     rw (written-form n, value, le-leb n limit h)
 
-pub pattern-back : (n : ℕ) → n < 2 ^ 32 → Read.pattern (Write.pattern n) ≡ Value n
-unfolding Read.pattern Write.pattern
-pattern-back n h = rw (digits-length 16 8 n) (written-digits 16 (omega arith) (omega arith) 8 n 0 ∙ ap Value (rw (zero-mul, zero-add) (mod-eq-of-lt h)))
-
 -- ---- numbers that are read
 quotient-zero : (n p : ℕ) → 0 < p → n / p ≡ 0 → n < p
 quotient-zero n p pos e = rw one-mul at (div-lt-iff-lt-mul {x = n} {y = 1} pos .0 (omega arith))
@@ -141,7 +136,7 @@ quotient-some n p pos h = rw one-mul at (le-div-iff-mul-le {x = 1} pos .0 h)
 
 read-places : (text : List ℕ) (n : ℕ) → wellFormed text ≡ true → numeral 10 0 text ≡ Value n → length text ≡ places n
 unfolding wellFormed digits Write.digit
-read-places [] n w h = let z : _≡_ {A = ℕ} 0 1 = cc in absurd (omega arith)
+read-places [] n w h = absurd (false≢true w)
 read-places (d ∷ []) n w h = sym (one-place n (omega (arith, read-digits 10 (omega arith) (omega arith) (d ∷ []) 0 n h .0)))
 read-places (d ∷ e ∷ ds) n w h = go (decLt 0 (n / power)) (read-digits 10 (omega arith) (omega arith) (d ∷ e ∷ ds) 0 n h)
   where
@@ -160,9 +155,7 @@ read-places (d ∷ e ∷ ds) n w h = go (decLt 0 (n / power)) (read-digits 10 (o
         let leads : Write.digit (n / power % 10) ≡ d = cc (r .1) in
         let none : n / power ≡ 0 = omega arith in
         let zero-leads : 48 ≡ d = rw none at leads in
-        let t : false ≡ true = rw (eq-eqb d 48 (sym zero-leads)) at w in
-        let z : _≡_ {A = ℕ} 0 1 = cc in
-        absurd (omega arith)
+        absurd (false≢true (rw (eq-eqb d 48 (sym zero-leads)) at w))
 
 up-to : (limit n : ℕ) (x : Number) → upTo limit x ≡ Value n → (x ≡ Value n) × (n ≤ limit)
 unfolding upTo

@@ -42,6 +42,10 @@ then {out} {out₁} {out₂} {a} {b} {at} v w = record {
   place = omega (arith, v .place, w .place, same-length v, length-append a b);
 }
 
+-- what is written from the start of a buffer on ends in it
+pub end-within : {out text out′ : List ℕ} {end : ℕ} → Written out 0 text end out′ → end ≤ length out′
+end-within w = omega (arith, w .place, same-length w)
+
 -- a text that fits into a buffer from its start on stands there whole, and its end lies in the buffer
 pub whole : {out text out′ : List ℕ} {end : ℕ} → Written out 0 text end out′ → length text ≤ length out → Whole out text end out′
 whole {out} {text} {out′} {end} w fits =

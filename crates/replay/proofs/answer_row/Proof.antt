@@ -1,7 +1,7 @@
 -- `replay::answer_row` meets its contract. Assumes nothing.
 use mathlib.Core.Path.{sym}
 use lib.Seq.{length-take-le}
-use Rattle.replay.proofs.Rows.{end-within}
+use Rattle.text.proofs.Written.{end-within}
 use borrow.Author.Needs.{needs}
 use Rattle.replay.proofs.answer_row.Statement.{statement}
 use Rattle.replay.proofs.answer_row.Tie as tie

@@ -5,10 +5,8 @@ use Prim.Native.Nat.{ℕ}
 use lib.Ieee.{Float}
 use Rattle.block.specs.Block.{samples, after}
 use Rattle.block.proofs.Blocks.{scan-then, scanned-then, samples-into, after-into}
-use Rattle.filter.specs.Svf as Svf
 use Rattle.hihat.specs.declared.chain.Chain.{Chain}
 use Rattle.hihat.specs.declared.chain.Settings.{Settings}
-use Rattle.hihat.specs.SquareNoise as SquareNoise
 use Rattle.hihat.specs.Chain.{filtered, passed, states, onePass, States}
 
 module _ (b : Settings) (n : ℕ) (c : Chain) where

@@ -13,6 +13,7 @@ use lib.IntN.{ℤ, pos, negsuc}
 use lib.Pow.{pow-add, pow-mono}
 use lib.Ieee.{Float, nan, inf, fin, binary32, up, down, round, sub, mul, ofInt, toUnsigned, le, fits}
 use lib.Ieee.Fits.{up-pos, down-pos, and-l, and-r}
+use lib.Ieee.Digits.{back}
 use lib.Ieee.Exact.{HasValue}
 use lib.Ieee.Back.{round-whole}
 use lib.Ieee.Order.{le-of-values}
@@ -84,10 +85,7 @@ parts m (pos k) t = record { digits = small m (pos k) t .0; j = 149; j-le = lit�
 parts m (negsuc k) t =
     let s = small m (negsuc k) t in
     let l : suc k ≤ 149 = omega (arith, lt-of-not-le (λ (g : 150 ≤ suc k). not-le-of-lt (lt-of-lt-of-le (lit< {m = 2 ^ 149} {n = 2 ^ 150} tt) (pow-mono g)) (s .1))) in
-    record { digits = s .0; j = 149 - suc k; j-le = omega arith; goes = sym (pow-add 2 (149 - suc k) (suc k)) ∙ ap (λ (z : ℕ). 2 ^ z) (back (suc k) l) }
-  where
-    back : (k : ℕ) → k ≤ 149 → 149 - k + k ≡ 149
-    back k l = omega arith
+    record { digits = s .0; j = 149 - suc k; j-le = omega arith; goes = sym (pow-add 2 (149 - suc k) (suc k)) ∙ ap (λ (z : ℕ). 2 ^ z) (back 149 (suc k) l) }
 
 -- ---- without a minus sign: m * 2 ^ e is `whole` and `rest` / down e
 abbrev whole : ℕ → ℤ → ℕ

@@ -66,12 +66,9 @@ Arg = RefT Svf × (Float × (FilterMode × Unit {0}))
 abbrev stayed : Stays (f.ended .signature .params) (f.ended .kept)
 stayed = (stay-ref (0 ∷ []) tt (plain (λ _. T.the-row)), (stay-none (λ _. f32) yes, (stay-none (λ _. F.the-row) yes, tt)))
 
--- the machine values of a filter, of what `process` returns and of a mode
+-- the machine values of a filter and of a mode
 abbrev svf : Svf → Val
 svf = LL.val T.the-type T′.the-laws
-
-abbrev returned : SvfOutput → Val
-returned = LL.val S.the-type S′.the-laws
 
 abbrev moded : FilterMode → Val
 moded = EL.val F.the-type F′.the-laws

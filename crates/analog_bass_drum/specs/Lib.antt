@@ -1,2 +1,3 @@
+-- The definitions of `analog_bass_drum`.
 pub mod AnalogBassDrum
 pub mod Rest

@@ -1,5 +1,6 @@
+-- The laws of `cue_sheet` beside the proofs of its functions.
 pub mod FirstLines
 pub mod Judging
-pub mod NotANumber
+mod NotANumber
 pub mod Questions
-pub mod Voices
+mod Voices

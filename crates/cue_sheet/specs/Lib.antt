@@ -1,2 +1,3 @@
+-- The definitions of `cue_sheet`.
 pub mod CueLine
 pub mod Sheet

@@ -1,1 +1,2 @@
+-- The laws of `exports` beside the proofs of its functions.
 mod Renders

@@ -1,3 +1,4 @@
+-- The definitions of `exports`.
 pub mod Noise
 pub mod Sheet
 pub mod Voices

@@ -1,2 +1,3 @@
+-- The definitions of `filter`.
 pub mod OnePole
 pub mod Svf

@@ -1,3 +1,4 @@
-pub mod Six
-pub mod OnePass
-pub mod Laws
+-- The laws of `hihat` beside the proofs of its functions.
+mod Six
+mod OnePass
+mod Laws

@@ -1,3 +1,4 @@
+-- The definitions of `ieee754`.
 pub mod Operations
 pub mod Root
 pub mod Single

@@ -1,3 +1,4 @@
-pub mod Lengths
-pub mod Rendered
-pub mod Requests
+-- The laws of `listing` beside the proofs of its functions.
+mod Lengths
+mod Rendered
+mod Requests

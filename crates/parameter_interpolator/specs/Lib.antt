@@ -1,1 +1,2 @@
+-- The definitions of `parameter_interpolator`.
 pub mod ParameterInterpolator

@@ -1,1 +1,2 @@
+-- The definitions of `random`.
 pub mod Random

@@ -1,3 +1,4 @@
+-- The definitions of `replay`.
 pub mod Digest
 pub mod Play
 pub mod Response

@@ -1,1 +1,2 @@
+-- The definitions of `synthetic_snare_drum`.
 pub mod SyntheticSnareDrum

@@ -1,8 +1,9 @@
+-- The laws of `text` beside the proofs of its functions.
 pub mod Digits
 pub mod Fields
-pub mod Find
+mod Find
 pub mod Lines
-pub mod Numeral
+mod Numeral
 pub mod Places
 pub mod RoundTrip
 pub mod Written

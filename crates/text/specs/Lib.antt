@@ -1,2 +1,3 @@
+-- The definitions of `text`.
 pub mod Read
 pub mod Write

@@ -1,1 +1,2 @@
+-- The definitions of `trigger_pulse`.
 pub mod TriggerPulse

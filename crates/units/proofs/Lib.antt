@@ -1,3 +1,4 @@
+-- The laws of `units` beside the proofs of its functions.
 mod Powers
 mod Rounding
 mod Table

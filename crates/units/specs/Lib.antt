@@ -1,3 +1,4 @@
+-- The definitions of `units`.
 pub mod Tables
 pub mod Units
 pub mod Accuracy

@@ -1,1 +1,2 @@
+-- The definitions of `utils`.
 pub mod Utils

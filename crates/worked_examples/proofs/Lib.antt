@@ -1,1 +1,2 @@
-pub mod Table
+-- The examples of `worked_examples` that are theorems.
+mod Table

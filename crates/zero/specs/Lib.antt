@@ -1,1 +1,2 @@
+-- The definitions of `zero`.
 pub mod Zero

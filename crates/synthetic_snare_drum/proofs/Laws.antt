@@ -13,18 +13,18 @@ use Rattle.units.proofs.InRange.{in-range}
 use Rattle.synthetic_snare_drum.specs.SyntheticSnareDrum.{renderRefusal}
 
 -- the knobs that make the pitches
-abbrev pub KnobsIn : Float → Float → Float → Type 0
-KnobsIn fmAmount decay snappy = KnobIn fmAmount × (KnobIn decay × KnobIn snappy)
+abbrev pub PitchKnobsIn : Float → Float → Float → Type 0
+PitchKnobsIn fmAmount decay snappy = KnobIn fmAmount × (KnobIn decay × KnobIn snappy)
 
 pub bounds-in : (rate : Float) (size : ℕ) (accent f0 fmAmount decay snappy : Float) → renderRefusal rate size accent f0 fmAmount decay snappy ≡ 0
-    → (size ≤ 16384) × KnobsIn fmAmount decay snappy
+    → (size ≤ 16384) × PitchKnobsIn fmAmount decay snappy
 unfolding renderRefusal
 bounds-in rate size accent f0 fmAmount decay snappy h =
     let b = block-passed size f0 accent fmAmount decay snappy _ (passed (isSampleRate rate) 1 _ (omega arith) h .1) in
     (b .0, (b .1 .a-in, (b .1 .decay-in, b .1 .c-in)))
 
 -- the pitches of both decays
-module _ (fmAmount decay snappy other : Float) (knobs : KnobsIn fmAmount decay snappy) where
+module _ (fmAmount decay snappy other : Float) (knobs : PitchKnobsIn fmAmount decay snappy) where
   pub drum-ratio :
       let p = neg (decay ⊗ (decimal 1 0 ⊕ decay ⊗ (decay ⊖ decimal 1 0))) ⊗ decimal 72 0 ⊖ fmAmount ⊗ fmAmount ⊗ decimal 12 0 ⊕ snappy ⊗ decimal 7 0 in
       unwrapOr (semitonesToRatio p) other ≡ ratio p

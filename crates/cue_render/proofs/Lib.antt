@@ -1,5 +1,3 @@
-pub mod Fill
-pub mod Segment
 pub mod Walk
 pub mod AcceptedSheet
 pub mod Answer

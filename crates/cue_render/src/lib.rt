@@ -1,15 +1,11 @@
 // A cue sheet rendered to samples: four voices from init, struck by the sheet's cues, added segment by segment.
-mod kit; // kit.rt: the four parts and the noise state
-mod mix; // mix.rt: silence, and blocks added sample by sample
-mod part; // part.rt: a voice with what it plays
-
 ghost use mathlib.Core.Path.{_≡_};
 ghost use mathlib.Core.List.{_++_};
 ghost use Prim.Native.Nat.{_-_, _≤_};
 ghost use lib.ListN as List;
 ghost use lib.ListN.{take, drop};
 ghost use Rattle.cue_sheet.specs.Sheet as Sheet;
-ghost use Rattle.cue_render.specs.Kit.{segment, afterSegment};
+ghost use Rattle.kit.specs.Kit.{segment, afterSegment};
 ghost use Rattle.cue_render.specs.Render as spec;
 use cue_sheet::Judgment;
 use cue_sheet::Line;
@@ -75,12 +71,11 @@ fn render_lines(
     render_segment(kit, from, length as usize, out, scratch);
 }
 
-// The segment from a place of the buffer to another.
+// The segment from a place of the buffer to another. The scratch has a place for each of its samples.
 fn render_segment(kit: Kit, from: usize, to: usize, out: &mut [f32], scratch: &mut [f32]) -> Kit
-    requires { ⌜ (from ≤ to) × (to ≤ List.length (now out)) × (to ≤ List.length (now scratch)) ⌝ }
+    requires { ⌜ (from ≤ to) × (to ≤ List.length (now out)) × (to - from ≤ List.length (now scratch)) ⌝ }
     ensures kit { λ r. ⌜ r ≡ afterSegment kit (to - from) ⌝ }
     ensures block { λ _. ⌜ now (out .exit) ≡ take from (now (out .entry)) ++ (segment kit (to - from) ++ drop to (now (out .entry))) ⌝ }
 {
-    let n = to - from;
-    kit.segment(&mut out[from..to], &mut scratch[..n])
+    kit.segment(&mut out[from..to], scratch)
 }

@@ -1,0 +1,56 @@
+-- `kit::part::SnarePart::play` meets its contract. Assumes nothing.
+use borrow.Author.Needs.{needs}
+use borrow.Author.Tests.{not-true, not-false}
+use mathlib.Core.Path.{refl}
+use Rattle.kit.specs.Part.{snareInto, snareAfter}
+use Rattle.kit.proofs.Fill.{cleared-scratch}
+use Rattle.kit.proofs.part.SnarePart.play.Statement.{statement}
+use Rattle.kit.proofs.part.SnarePart.play.Tie as tie
+
+returns : tie.Need-returns
+unfolding snareInto snareAfter
+returns c = rw (not-true (c .before .before .before .before .before .args .self .playing .struck) (c .if1 .taken)) (refl, refl)
+
+clear-requires : tie.Need-clear-requires
+clear-requires c κs = search needs
+
+render-requires : tie.Need-render-requires
+render-requires c κs = search needs
+
+add-to-requires : tie.Need-add-to-requires
+add-to-requires c κs = search needs
+
+held-requires : tie.Need-held-requires
+held-requires c κs = search needs
+
+same-length : tie.Need-same-length
+same-length c = search needs
+
+same-length-2 : tie.Need-same-length-2
+same-length-2 c = search needs
+
+returns-2 : tie.Need-returns-2
+unfolding snareInto snareAfter
+returns-2 c =
+    let added = c .before .before .before .before in
+    let rendered = added .before .before .before .before .before in
+    let cleared = rendered .before .before .before .before in
+    let test = cleared .before .before .before in
+    let start = test .before .before .before .before .before in
+    let struck = not-false (start .args .self .playing .struck) (test .if1 .left) in
+    let scratch = cleared-scratch _ _ _ (start .pre) (cleared .clear .ensures) in
+    let render = rendered .render in
+    (rw (c .held .ensures, render .ensures .1 .0, render .ensures .1 .1 .0, scratch .1, struck), rw (added .add-to .ensures, render .ensures .1 .1 .1, scratch .0, struck))
+
+pub play-spec : {M : Type 1} → statement M
+play-spec =
+    tie.close
+    (tie.spec
+    returns
+    clear-requires
+    render-requires
+    add-to-requires
+    held-requires
+    same-length
+    same-length-2
+    returns-2)

@@ -23,7 +23,7 @@ pub record Judging (sheet : List ℕ) (rate length at cues leastStart : ℕ) : T
   pub few : cues ≤ 64
   pub left : judge sheet ≡ judgeLines rate length cues leastStart (lines (drop at sheet))
 
-not-accepted : {C : Type 0} {n line rate length cues : ℕ} → refusedAt n line ≡ accepted rate length cues → C
+pub not-accepted : {C : Type 0} {n line rate length cues : ℕ} → refusedAt n line ≡ accepted rate length cues → C
 not-accepted h = let z : _≡_ {A = ℕ} 0 1 = cc in absurd (omega arith)
 
 -- the rate and the length of an accepted sheet are those that its lines are judged with

@@ -86,8 +86,7 @@ impl Kit {
         self
     }
 
-    // One segment into the first places of `out`, of as many samples as both slices have places; the places past them stay as they were.
-    // As many places of the scratch are left silent.
+    // One segment, of as many samples as both slices have places; past them both stay as they were. The scratch is left silent.
     pub fn segment(self, out: &mut [f32], scratch: &mut [f32]) -> Self
         ensures kit { λ r. ⌜ r ≡ spec.afterSegment self (spec.places (now (out .entry)) (now (scratch .entry))) ⌝ }
         ensures block { λ _. ⌜ (let n = spec.places (now (out .entry)) (now (scratch .entry)) in now (out .exit) ≡ spec.segment self n ++ drop n (now (out .entry))) ⌝ }

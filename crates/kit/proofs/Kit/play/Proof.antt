@@ -64,11 +64,10 @@ returns c =
     let b = s .before .before .before .before .before .before .before in
     let z = b .before .before .before .before .before in
     let start = z .before .before .before .before in
-    let played =
-        parts-in-turn (start .args .self) _ _ _ _ _ _ _ _ _ _ (z .clear .ensures) (z .clear .kept .0)
-        (b .play .kept .1 .0) (s .play2 .kept .1 .1 .0) (y .play3 .kept .1 .1 .0)
-        (b .play .ensures) (s .play2 .ensures) (y .play3 .ensures) (h .play4 .ensures) in
-    (played .0, (played .1, e .clear2 .ensures ∙ ap silence (sym (e .clear2 .kept .0) ∙ same-length-2 c)))
+    parts-in-turn (start .args .self) _ _ _ _ _ _ _ _ _ _ _ _ (z .clear .ensures) (z .clear .kept .0)
+    (b .play .kept .1 .0) (s .play2 .kept .1 .1 .0) (y .play3 .kept .1 .1 .0)
+    (b .play .ensures) (s .play2 .ensures) (y .play3 .ensures) (h .play4 .ensures)
+    (e .clear2 .ensures ∙ ap silence (sym (e .clear2 .kept .0) ∙ same-length-2 c))
 
 pub play-spec : {M : Type 1} → statement M
 play-spec =

@@ -1,4 +1,5 @@
-pub mod Walk
-pub mod AcceptedSheet
-pub mod Answer
-pub mod NeverRefused
+-- The laws of `cue_render` beside the proofs of its functions.
+mod Walk
+mod AcceptedSheet
+mod Answer
+mod NeverRefused

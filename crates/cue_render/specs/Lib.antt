@@ -1,2 +1,3 @@
+-- The definitions of `cue_render`.
 pub mod Render
 pub mod Calls

@@ -1,2 +1,3 @@
-pub mod Fill
-pub mod Segment
+-- The laws of `kit` beside the proofs of its functions.
+mod Fill
+mod Segment

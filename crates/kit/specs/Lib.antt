@@ -1,3 +1,4 @@
+-- The definitions of `kit`.
 pub mod Mix
 pub mod Part
 pub mod Kit

@@ -1,5 +1,5 @@
 -- An excitation at rest is that of the next turn too. Assumes nothing.
-use mathlib.Core.Path.{_≡_, refl, _∙_}
+use mathlib.Core.Path.{_≡_, refl, sym, _∙_}
 use Prim.Native.Nat.{ℕ, zero, suc}
 use lib.Ieee.{Float}
 use Rattle.analog_bass_drum.specs.AnalogBassDrum.{fmPulse, excitation, step}
@@ -40,5 +40,5 @@ pub held : (b : Settings) (v : AnalogBassDrum) (e : Excitation) → e ≡ excita
 unfolding excitation step
 held b v e known rest =
     let r : AtRest v (excitation b v) = rw known at rest in
-    let again = alike b v (step b v) (r .count) (r .fm-count) (r .level) (r .low-pass) (r .fm-low-pass) refl refl refl in
-    (known ∙ again, rw known record { count = refl; fm-count = refl; level = refl; low-pass = refl; fm-low-pass = refl })
+    let again = alike b (step b v) v (r .remaining) (r .fm-remaining) (r .pulse) (r .lp) (r .fm-lp) refl refl refl in
+    (known ∙ sym again, rw known record { remaining = refl; fm-remaining = refl; pulse = refl; lp = refl; fm-lp = refl })

@@ -8,7 +8,7 @@ use lib.Ieee.{Float, neg, le, toUnsigned}
 use Rattle.ieee754.specs.Single.{_⊕_, _⊖_, _⊗_, _⊘_, decimal}
 use Rattle.ieee754.specs.Operations.{abs, minimumNumber, clamp}
 use Rattle.block.specs.Block.{Turn, samples, after}
-use Rattle.refusal.specs.Refusal.{ask, askKnobs, unlessRefused, isSampleRate, isBlockLength, isUnit}
+use Rattle.refusal.specs.Refusal.{ask, askBlock, unlessRefused, isSampleRate, isUnit}
 use Rattle.units.specs.Units.{ratio}
 use Rattle.utils.specs.Utils.{onePole}
 use Rattle.filter.specs.Svf as Svf
@@ -167,10 +167,9 @@ turn b v = let next = step b v in record { sample = next .«tone_lp»; next = ne
 -- the number of the first question that is not passed; 0 where all are
 unfoldable pub renderRefusal : ℕ → Float → Float → Float → Float → Float → Float → ℕ
 renderRefusal size accent f0 tone decay attackFmAmount selfFmAmount =
-    ask (isBlockLength size) 2
-    (askKnobs f0 accent tone decay attackFmAmount
+    askBlock size f0 accent tone decay attackFmAmount
     (ask (isUnit selfFmAmount) 5
-    0))
+    0)
 
 -- the voice after the call
 abbrev pub render : AnalogBassDrum → Bool → Float → Float → Float → Float → Float → Float → ℕ → AnalogBassDrum

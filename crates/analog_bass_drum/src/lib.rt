@@ -231,23 +231,23 @@ impl AnalogBassDrum {
         }
     }
 
-    // Does the excitation leave the voice's fields as they are?
+    // Whether the turn leaves the pulses and their low-passes as they are.
     fn is_at_rest(self, e: Excitation) -> bool
         ensures { λ r. ⌜ (r ≡ true → AtRest self e) × (AtRest self e → r ≡ true) ⌝ }
     {
-        if self.pulse_remaining_samples != e.pulse_remaining_samples {
+        if e.pulse_remaining_samples != self.pulse_remaining_samples {
             return false;
         }
-        if self.fm_pulse_remaining_samples != e.fm_pulse_remaining_samples {
+        if e.fm_pulse_remaining_samples != self.fm_pulse_remaining_samples {
             return false;
         }
-        if !ieee754::is_same(self.pulse, e.pulse) {
+        if !ieee754::is_same(e.pulse, self.pulse) {
             return false;
         }
-        if !ieee754::is_same(self.pulse_lp, e.pulse_lp) {
+        if !ieee754::is_same(e.pulse_lp, self.pulse_lp) {
             return false;
         }
-        ieee754::is_same(self.fm_pulse_lp, e.fm_pulse_lp)
+        ieee754::is_same(e.fm_pulse_lp, self.fm_pulse_lp)
     }
 
     // What is left of the turn. The sample is tone_lp.
@@ -329,12 +329,7 @@ fn asked(
         Refusal::Knob,
         Answer::Accepted,
     );
-    let knobs = refusal::ask_knobs(f0, accent, tone, decay, attack_fm_amount, last);
-    refusal::ask(
-        refusal::is_block_length(samples),
-        Refusal::BlockLength,
-        knobs,
-    )
+    refusal::ask_block(samples, f0, accent, tone, decay, attack_fm_amount, last)
 }
 
 impl Settings {

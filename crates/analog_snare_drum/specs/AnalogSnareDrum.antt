@@ -8,7 +8,7 @@ use lib.Ieee.{Float, nan, binary32, neg, lt, ofInt, toUnsigned}
 use Rattle.ieee754.specs.Single.{_⊕_, _⊖_, _⊗_, decimal}
 use Rattle.ieee754.specs.Operations.{minimumNumber, clamp}
 use Rattle.block.specs.Block.{Turn, samples, after}
-use Rattle.refusal.specs.Refusal.{ask, askKnobs, unlessRefused, isSampleRate, isBlockLength}
+use Rattle.refusal.specs.Refusal.{ask, askBlock, unlessRefused, isSampleRate}
 use Rattle.random.specs.Random.{getFloat}
 use Rattle.units.specs.Units.{ratio}
 use Rattle.utils.specs.Utils.{onePole, softClip}
@@ -152,9 +152,9 @@ excitationOf first other (suc i) = other
 
 -- `let mut shell = 0.0;`, and each mode adds its part
 unfoldable pub shellOutput : Settings → List Svf → Float → Float → ShellOutput
-shellOutput s resonator first other =
+shellOutput b resonator first other =
     let mode : ℕ → Float → ModeOutput =
-    (λ i shell. modeOutput shell (getD (s .gain) i nan) (filterOf resonator i) (excitationOf first other i) (s .«exciter_leak»)) in
+    (λ i shell. modeOutput shell (getD (b .gain) i nan) (filterOf resonator i) (excitationOf first other i) (b .«exciter_leak»)) in
     let m₀ = mode 0 (decimal 0 0) in
     let m₁ = mode 1 (m₀ .shell) in
     let m₂ = mode 2 (m₁ .shell) in
@@ -167,11 +167,11 @@ unfoldable pub notNegative : Float → Float
 notNegative noise = cond (lt noise (decimal 0 0)) (decimal 0 0) noise
 
 unfoldable pub noiseOutput : Settings → Float → Svf → ℕ → NoiseOutput
-noiseOutput s noiseEnvelope noiseFilter state =
+noiseOutput b noiseEnvelope noiseFilter state =
     let draw = getFloat state in
     let noise = notNegative (decimal 2 0 ⊗ draw .value ⊖ decimal 1 0) in
-    let noiseEnvelope′ = noiseEnvelope ⊗ s .«noise_envelope_decay» in
-    let o = Filter.process noiseFilter (noise ⊗ (noiseEnvelope′ ⊗ s .snappy ⊗ decimal 2 0)) BandPass in
+    let noiseEnvelope′ = noiseEnvelope ⊗ b .«noise_envelope_decay» in
+    let o = Filter.process noiseFilter (noise ⊗ (noiseEnvelope′ ⊗ b .snappy ⊗ decimal 2 0)) BandPass in
     record { state = draw .word; «noise_envelope» = noiseEnvelope′; «noise_filter» = o .filter; noise = o .out }
 
 -- the pulse, its low-pass, and what excites the first mode and the others
@@ -189,10 +189,10 @@ excitation v =
     }
 
 unfoldable pub step : Settings → AnalogSnareDrum → ℕ → Step
-step s v noise =
+step b v noise =
     let e = excitation v in
-    let shell = shellOutput s (v .resonator) (e .first) (e .other) in
-    let n = noiseOutput s (v .«noise_envelope») (v .«noise_filter») noise in
+    let shell = shellOutput b (v .resonator) (e .first) (e .other) in
+    let n = noiseOutput b (v .«noise_envelope») (v .«noise_filter») noise in
     record {
       voice = record {
         «pulse_remaining_samples» = e .«remaining_samples»;
@@ -206,37 +206,37 @@ step s v noise =
         «pulse_decay_time» = v .«pulse_decay_time»;
       };
       noise = n .state;
-      sample = n .noise ⊕ shell .shell ⊗ (decimal 1 0 ⊖ s .snappy);
+      sample = n .noise ⊕ shell .shell ⊗ (decimal 1 0 ⊖ b .snappy);
     }
 
 abbrev pub sounding : AnalogSnareDrum → ℕ → Sounding
 sounding v noise = record { voice = v; noise = noise }
 
 abbrev pub turn : Settings → Sounding → Turn Sounding
-turn s state = let o = step s (state .voice) (state .noise) in record { sample = o .sample; next = sounding (o .voice) (o .noise) }
+turn b state = let o = step b (state .voice) (state .noise) in record { sample = o .sample; next = sounding (o .voice) (o .noise) }
 
 -- ---- render
 
 -- the number of the first question that is not passed; 0 where all are
 unfoldable pub renderRefusal : ℕ → Float → Float → Float → Float → Float → ℕ
-renderRefusal size accent f0 tone decay snappy = ask (isBlockLength size) 2 (askKnobs f0 accent tone decay snappy 0)
+renderRefusal size accent f0 tone decay snappy = askBlock size f0 accent tone decay snappy 0
 
 -- what the loop starts from: the filters are tuned also where the block is empty
 abbrev pub started : AnalogSnareDrum → ℕ → Bool → Float → Float → Settings → Sounding
-started v noise trigger accent f0 s = sounding (tuned (triggered v trigger accent) f0 (s .q)) noise
+started v noise trigger accent f0 b = sounding (tuned (triggered v trigger accent) f0 (b .q)) noise
 
 -- the voice and the noise state after the call
 abbrev pub render : AnalogSnareDrum → ℕ → Bool → Float → Float → Float → Float → Float → ℕ → Sounding
 render v noise trigger accent f0 tone decay snappy size =
-    let s = settings tone decay snappy in
+    let b = settings tone decay snappy in
     unlessRefused (renderRefusal size accent f0 tone decay snappy)
-    (after (turn s) size (started v noise trigger accent f0 s))
+    (after (turn b) size (started v noise trigger accent f0 b))
     (sounding v noise)
 
 -- what `out` holds after the call
 abbrev pub renderOut : AnalogSnareDrum → ℕ → Bool → Float → Float → Float → Float → Float → List Float → List Float
 renderOut v noise trigger accent f0 tone decay snappy out =
-    let s = settings tone decay snappy in
+    let b = settings tone decay snappy in
     unlessRefused (renderRefusal (length out) accent f0 tone decay snappy)
-    (samples (turn s) (length out) (started v noise trigger accent f0 s))
+    (samples (turn b) (length out) (started v noise trigger accent f0 b))
     out

@@ -386,12 +386,7 @@ fn tuned_mode(resonator: Svf, f0: f32, mode_frequency: f32, q: f32) -> Svf
 fn asked(samples: usize, accent: f32, f0: f32, tone: f32, decay: f32, snappy: f32) -> Answer
     ensures { λ r. ⌜ answerNumber r ≡ spec.renderRefusal samples accent f0 tone decay snappy ⌝ }
 {
-    let knobs = refusal::ask_knobs(f0, accent, tone, decay, snappy, Answer::Accepted);
-    refusal::ask(
-        refusal::is_block_length(samples),
-        Refusal::BlockLength,
-        knobs,
-    )
+    refusal::ask_block(samples, f0, accent, tone, decay, snappy, Answer::Accepted)
 }
 
 impl Settings {

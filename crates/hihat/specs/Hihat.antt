@@ -6,7 +6,7 @@ use lib.ListN.{length}
 use lib.Ieee.{Float, neg}
 use Rattle.ieee754.specs.Single.{_⊕_, _⊖_, _⊗_, _⊘_, decimal}
 use Rattle.ieee754.specs.Operations.{clamp}
-use Rattle.refusal.specs.Refusal.{ask, askKnobs, unlessRefused, isSampleRate, isBlockLength}
+use Rattle.refusal.specs.Refusal.{ask, askBlock, unlessRefused, isSampleRate}
 use Rattle.units.specs.Units.{ratio}
 use Rattle.parameter_interpolator.specs.ParameterInterpolator as ParameterInterpolator
 use Rattle.parameter_interpolator.specs.declared.ParameterInterpolator.{ParameterInterpolator as Interpolator}
@@ -123,8 +123,7 @@ ended v c = record {
 unfoldable pub renderRefusal : Float → ℕ → Float → Float → Float → Float → Float → ℕ
 renderRefusal sampleRate size accent f0 tone decay noisiness =
     ask (isSampleRate sampleRate) 1
-    (ask (isBlockLength size) 2
-    (askKnobs f0 accent tone decay noisiness 0))
+    (askBlock size f0 accent tone decay noisiness 0)
 
 module _ (v : Hihat) (noise : ℕ) (sustain trigger : Bool) (accent f0 tone decay noisiness : Float) where
   -- the states that the passes of an accepted call leave

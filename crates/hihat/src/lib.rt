@@ -291,15 +291,18 @@ fn asked(
 ) -> Answer
     ensures { λ r. ⌜ answerNumber r ≡ spec.renderRefusal «sample_rate» samples accent f0 tone decay noisiness ⌝ }
 {
-    let knobs = refusal::ask_knobs(f0, accent, tone, decay, noisiness, Answer::Accepted);
-    let second = refusal::ask(
-        refusal::is_block_length(samples),
-        Refusal::BlockLength,
-        knobs,
+    let block = refusal::ask_block(
+        samples,
+        f0,
+        accent,
+        tone,
+        decay,
+        noisiness,
+        Answer::Accepted,
     );
     refusal::ask(
         refusal::is_sample_rate(sample_rate),
         Refusal::SampleRate,
-        second,
+        block,
     )
 }

@@ -11,7 +11,7 @@ use Rattle.refusal.specs.declared.Refusal.{Refusal}
 use Rattle.refusal.specs.declared.Refusal.the-variants.{SampleRate, BlockLength, Frequency, Accent, Knob, Pitch, FirstLine, CueLine, CueStart, CueCount, BufferLength}
 use Rattle.refusal.specs.declared.Answer.{Answer}
 use Rattle.refusal.specs.declared.Answer.the-variants.{Accepted, Refused}
-use Rattle.refusal.specs.Refusal.{number, answerNumber, unlessRefused, ask, isBlockLength, isFrequency, isUnit, askKnobs, KnobIn}
+use Rattle.refusal.specs.Refusal.{number, answerNumber, unlessRefused, ask, isBlockLength, isFrequency, isUnit, askKnobs, askBlock, KnobIn}
 
 -- an answer is known by its number
 answerOf : ℕ → Answer
@@ -104,7 +104,7 @@ knobs-passed f0 accent a decay c next h =
     record { frequency = third .0; accent-in = fourth .0; a-in = x .0; decay-in = y .0; c-in = z .0 }
 
 -- and the length of the block before them
-pub block-passed : (size : ℕ) (f0 accent a decay c : Float) (next : ℕ) → ask (isBlockLength size) 2 (askKnobs f0 accent a decay c next) ≡ 0
+pub block-passed : (size : ℕ) (f0 accent a decay c : Float) (next : ℕ) → askBlock size f0 accent a decay c next ≡ 0
     → (size ≤ 16384) × KnobsIn accent f0 a decay c
 block-passed size f0 accent a decay c next h =
     let second = passed (isBlockLength size) 2 _ (omega arith) h in

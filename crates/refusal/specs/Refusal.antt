@@ -69,6 +69,10 @@ askKnobs f0 accent a b c next =
     (ask (isUnit c) 5
     next))))
 
+-- 2 to 5: what every `render` asks of its block and of its knobs
+abbrev pub askBlock : ℕ → Float → Float → Float → Float → Float → ℕ → ℕ
+askBlock samples f0 accent a b c next = ask (isBlockLength samples) 2 (askKnobs f0 accent a b c next)
+
 -- a knob that has passed its question
 abbrev pub KnobIn : Float → Type 0
 KnobIn x = isUnit x ≡ true

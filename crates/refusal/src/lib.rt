@@ -107,3 +107,19 @@ pub fn ask_knobs(f0: f32, accent: f32, a: f32, b: f32, c: f32, next: Answer) -> 
     let accents = ask(is_unit(accent), Refusal::Accent, knobs);
     ask(is_frequency(f0), Refusal::Frequency, accents)
 }
+
+// The questions 2 to 5, of the block's length and of the knobs, and the answer of the questions after them.
+pub fn ask_block(
+    samples: usize,
+    f0: f32,
+    accent: f32,
+    a: f32,
+    b: f32,
+    c: f32,
+    next: Answer,
+) -> Answer
+    ensures { λ r. ⌜ spec.answerNumber r ≡ spec.askBlock samples f0 accent a b c (spec.answerNumber next) ⌝ }
+{
+    let knobs = ask_knobs(f0, accent, a, b, c, next);
+    ask(is_block_length(samples), Refusal::BlockLength, knobs)
+}

@@ -8,7 +8,7 @@ use lib.Ieee.{Float, nan, neg, le, lt, toUnsigned}
 use Rattle.ieee754.specs.Single.{_⊕_, _⊖_, _⊗_, _⊘_, decimal}
 use Rattle.ieee754.specs.Operations.{abs, minimumNumber, clamp}
 use Rattle.block.specs.Block.{Turn, samples, after}
-use Rattle.refusal.specs.Refusal.{ask, askKnobs, unlessRefused, isSampleRate, isBlockLength}
+use Rattle.refusal.specs.Refusal.{ask, askBlock, unlessRefused, isSampleRate}
 use Rattle.random.specs.Random.{getFloat}
 use Rattle.units.specs.Units.{ratio}
 use Rattle.utils.specs.Utils.{sqrt}
@@ -238,8 +238,7 @@ ended s =
 unfoldable pub renderRefusal : Float → ℕ → Float → Float → Float → Float → Float → ℕ
 renderRefusal sampleRateHz size accent f0 fmAmount decay snappy =
     ask (isSampleRate sampleRateHz) 1
-    (ask (isBlockLength size) 2
-    (askKnobs f0 accent fmAmount decay snappy 0))
+    (askBlock size f0 accent fmAmount decay snappy 0)
 
 -- the state after the loop of an accepted call
 abbrev pub played : SyntheticSnareDrum → ℕ → Bool → Bool → Float → Float → Float → Float → Float → ℕ → Sounding

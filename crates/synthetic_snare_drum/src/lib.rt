@@ -231,13 +231,16 @@ fn asked(
 ) -> Answer
     ensures { λ r. ⌜ answerNumber r ≡ spec.renderRefusal rate samples accent f0 «fm_amount» decay snappy ⌝ }
 {
-    let knobs = refusal::ask_knobs(f0, accent, fm_amount, decay, snappy, Answer::Accepted);
-    let second = refusal::ask(
-        refusal::is_block_length(samples),
-        Refusal::BlockLength,
-        knobs,
+    let block = refusal::ask_block(
+        samples,
+        f0,
+        accent,
+        fm_amount,
+        decay,
+        snappy,
+        Answer::Accepted,
     );
-    refusal::ask(refusal::is_sample_rate(rate), Refusal::SampleRate, second)
+    refusal::ask(refusal::is_sample_rate(rate), Refusal::SampleRate, block)
 }
 
 impl Settings {

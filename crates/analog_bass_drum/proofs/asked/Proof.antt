@@ -10,26 +10,12 @@ is-unit-requires c κs = search needs
 ask-requires : tie.Need-ask-requires
 ask-requires c κs = search needs
 
-ask-knobs-requires : tie.Need-ask-knobs-requires
-ask-knobs-requires c κs = search needs
-
-is-block-length-requires : tie.Need-is-block-length-requires
-is-block-length-requires c κs = search needs
-
-ask-requires-2 : tie.Need-ask-requires-2
-ask-requires-2 c κs = search needs
+ask-block-requires : tie.Need-ask-block-requires
+ask-block-requires c κs = search needs
 
 returns : tie.Need-returns
 unfolding renderRefusal
 returns c = cc
 
 pub asked-spec : {M : Type 1} → statement M
-asked-spec =
-    tie.close
-    (tie.spec
-    is-unit-requires
-    ask-requires
-    ask-knobs-requires
-    is-block-length-requires
-    ask-requires-2
-    returns)
+asked-spec = tie.close (tie.spec is-unit-requires ask-requires ask-block-requires returns)

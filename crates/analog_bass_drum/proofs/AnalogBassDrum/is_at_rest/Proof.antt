@@ -7,10 +7,10 @@ use Rattle.analog_bass_drum.proofs.AnalogBassDrum.is_at_rest.Statement.
 use Rattle.analog_bass_drum.proofs.AnalogBassDrum.is_at_rest.Tie as tie
 
 returns : tie.Need-returns
-returns c = (λ h. absurd (false≢true h), λ r. absurd (c .if1 .taken (r .count)))
+returns c = (λ h. absurd (false≢true h), λ r. absurd (c .if1 .taken (r .remaining)))
 
 returns-2 : tie.Need-returns-2
-returns-2 c = (λ h. absurd (false≢true h), λ r. absurd (c .if2 .taken (r .fm-count)))
+returns-2 c = (λ h. absurd (false≢true h), λ r. absurd (c .if2 .taken (r .fm-remaining)))
 
 is-same-requires : tie.Need-is-same-requires
 is-same-requires c κs = search needs
@@ -18,7 +18,7 @@ is-same-requires c κs = search needs
 returns-3 : tie.Need-returns-3
 returns-3 c =
     let s = c .before .is-same in
-    (λ h. absurd (false≢true h), λ r. sym (not-true (s .result) (c .if3 .taken)) ∙ s .ensures .1 (r .level))
+    (λ h. absurd (false≢true h), λ r. sym (not-true (s .result) (c .if3 .taken)) ∙ s .ensures .1 (r .pulse))
 
 is-same-requires-2 : tie.Need-is-same-requires-2
 is-same-requires-2 c κs = search needs
@@ -26,7 +26,7 @@ is-same-requires-2 c κs = search needs
 returns-4 : tie.Need-returns-4
 returns-4 c =
     let s = c .before .is-same2 in
-    (λ h. absurd (false≢true h), λ r. sym (not-true (s .result) (c .if4 .taken)) ∙ s .ensures .1 (r .low-pass))
+    (λ h. absurd (false≢true h), λ r. sym (not-true (s .result) (c .if4 .taken)) ∙ s .ensures .1 (r .lp))
 
 is-same-requires-3 : tie.Need-is-same-requires-3
 is-same-requires-3 c κs = search needs
@@ -39,13 +39,13 @@ returns-5 c =
     let c₄ = c₃ .before in
     let c₅ = c₄ .before in (
       λ h. record {
-        count = c₅ .before .before .before .if1 .left;
-        fm-count = c₅ .if2 .left;
-        level = c₄ .is-same .ensures .0 (not-false (c₄ .is-same .result) (c₃ .if3 .left));
-        low-pass = c₂ .is-same2 .ensures .0 (not-false (c₂ .is-same2 .result) (c₁ .if4 .left));
-        fm-low-pass = c .is-same3 .ensures .0 h;
+        remaining = c₅ .before .before .before .if1 .left;
+        fm-remaining = c₅ .if2 .left;
+        pulse = c₄ .is-same .ensures .0 (not-false (c₄ .is-same .result) (c₃ .if3 .left));
+        lp = c₂ .is-same2 .ensures .0 (not-false (c₂ .is-same2 .result) (c₁ .if4 .left));
+        fm-lp = c .is-same3 .ensures .0 h;
       },
-      λ r. c .is-same3 .ensures .1 (r .fm-low-pass),
+      λ r. c .is-same3 .ensures .1 (r .fm-lp),
     )
 
 pub is-at-rest-spec : {M : Type 1} → statement M

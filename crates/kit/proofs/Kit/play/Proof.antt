@@ -1,4 +1,4 @@
--- `kit::Kit::segment` meets its contract. Assumes nothing.
+-- `kit::Kit::play` meets its contract. Assumes nothing.
 use Rattle.kit.proofs.Segment.{parts-in-turn}
 use mathlib.Core.Path.{sym, ap, _∙_}
 use Rattle.kit.specs.Mix.{silence}

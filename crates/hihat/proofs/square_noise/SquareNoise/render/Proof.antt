@@ -1,4 +1,4 @@
--- `hihat::SquareNoise::render` meets its contract, by `block`'s law of a source's loop. Assumes nothing.
+-- `hihat::square_noise::SquareNoise::render` meets its contract, by `block`'s law of a source's loop. Assumes nothing.
 use borrow.Author.Needs.{needs}
 use Prim.Native.Nat.{_-_}
 use native.Mathlib.Omega.{arith}

@@ -1,4 +1,4 @@
--- `hihat::SquareNoise::step` meets its contract. Assumes nothing.
+-- `hihat::square_noise::SquareNoise::step` meets its contract. Assumes nothing.
 use borrow.Author.Needs.{needs}
 use mathlib.Core.Path.{refl}
 use Rattle.hihat.proofs.square_noise.SquareNoise.step.Statement.{statement}

@@ -5,16 +5,10 @@ use Rattle.analog_bass_drum.specs.AnalogBassDrum.{frequency}
 use Rattle.analog_bass_drum.proofs.frequency.Statement.{statement}
 use Rattle.analog_bass_drum.proofs.frequency.Tie as tie
 
-diode-requires : tie.Need-diode-requires
-diode-requires c κs = search needs
-
-clamp-requires : tie.Need-clamp-requires
-clamp-requires c κs = search needs
-
 returns : tie.Need-returns
 unfolding frequency round ofBits
 returns c =
     rw (c .clamp .ensures, c .before .before .before .diode .ensures)
 
 pub frequency-spec : {M : Type 1} → statement M
-frequency-spec = tie.close (tie.spec diode-requires clamp-requires returns)
+frequency-spec = tie.close (tie.spec (λ c κs. search needs) (λ c κs. search needs) returns)

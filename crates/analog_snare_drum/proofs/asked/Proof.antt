@@ -4,12 +4,9 @@ use Rattle.analog_snare_drum.specs.AnalogSnareDrum.{renderRefusal}
 use Rattle.analog_snare_drum.proofs.asked.Statement.{statement}
 use Rattle.analog_snare_drum.proofs.asked.Tie as tie
 
-ask-block-requires : tie.Need-ask-block-requires
-ask-block-requires c κs = search needs
-
 returns : tie.Need-returns
 unfolding renderRefusal
 returns c = cc
 
 pub asked-spec : {M : Type 1} → statement M
-asked-spec = tie.close (tie.spec ask-block-requires returns)
+asked-spec = tie.close (tie.spec (λ c κs. search needs) returns)

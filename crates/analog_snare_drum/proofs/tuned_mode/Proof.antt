@@ -5,15 +5,9 @@ use Rattle.analog_snare_drum.specs.AnalogSnareDrum.{tunedMode}
 use Rattle.analog_snare_drum.proofs.tuned_mode.Statement.{statement}
 use Rattle.analog_snare_drum.proofs.tuned_mode.Tie as tie
 
-minimum-number-requires : tie.Need-minimum-number-requires
-minimum-number-requires c κs = search needs
-
-set-f-q-requires : tie.Need-set-f-q-requires
-set-f-q-requires c κs = search needs
-
 returns : tie.Need-returns
 unfolding tunedMode round ofBits
 returns c = rw (c .set-f-q .ensures, c .before .minimum-number .ensures)
 
 pub tuned-mode-spec : {M : Type 1} → statement M
-tuned-mode-spec = tie.close (tie.spec minimum-number-requires set-f-q-requires returns)
+tuned-mode-spec = tie.close (tie.spec (λ c κs. search needs) (λ c κs. search needs) returns)

@@ -6,25 +6,10 @@ use borrow.Author.Needs.{needs}
 use Rattle.cue_render.proofs.render.Statement.{statement}
 use Rattle.cue_render.proofs.render.Tie as tie
 
-judge-requires : tie.Need-judge-requires
-judge-requires c κs = search needs
-
-enum-known-refusal : tie.Need-enum-known-refusal
-enum-known-refusal c = search needs
-
-enum-known-rate : tie.Need-enum-known-rate
-enum-known-rate c = search needs
-
-cast-if1 : tie.Need-cast-if1
-cast-if1 c = search needs
-
 returns : tie.Need-returns
 returns c =
     let known = rw (c .before .before .rate .given .1) at (sym (c .before .before .before .before .judge .ensures)) in
     short-buffer _ _ _ _ _ known (c .if1 .taken)
-
-slice-aggregate-render-lines : tie.Need-slice-aggregate-render-lines
-slice-aggregate-render-lines c = search needs
 
 render-lines-requires : tie.Need-render-lines-requires
 render-lines-requires c κs =
@@ -35,9 +20,6 @@ returns-2 : tie.Need-returns-2
 returns-2 c =
     let known = rw (c .before .refusal .given .1) at (sym (c .before .before .before .judge .ensures)) in
     refused-sheet _ _ _ _ known
-
-same-length : tie.Need-same-length
-same-length c = search needs
 
 returns-3 : tie.Need-returns-3
 returns-3 c =
@@ -50,14 +32,5 @@ returns-3 c =
 pub render-spec : {M : Type 1} → statement M
 render-spec =
     tie.close
-    (tie.spec
-    judge-requires
-    enum-known-refusal
-    enum-known-rate
-    cast-if1
-    returns
-    slice-aggregate-render-lines
-    render-lines-requires
-    returns-2
-    same-length
-    returns-3)
+    (tie.spec (λ c κs. search needs) (λ c. search needs) (λ c. search needs) (λ c. search needs) returns (λ c. search needs) render-lines-requires
+    returns-2 (λ c. search needs) returns-3)

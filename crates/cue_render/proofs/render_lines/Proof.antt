@@ -18,40 +18,13 @@ abbrev μ-loop : tie.MeasureT-loop
 μ-loop sheet rate length cues out₀ scratch₀ kit₀ from₀ at₀ count₀ least-start₀ out scratch kit from at count least-start =
     List.length sheet - at
 
-start-requires : tie.Need-start-requires Inv-loop μ-loop
-start-requires c κs = search needs
-
-line-end-requires : tie.Need-line-end-requires Inv-loop μ-loop
-line-end-requires c κs = search needs
-
 loop-holds : tie.Need-loop-holds Inv-loop μ-loop
 loop-holds c =
     let start = c .before .before .before .before .before in
     (begin _ _ _ _ _ _ (c .line-end .ensures) (start .pre .0) (start .pre .1 .0) _ (c .before .start .ensures), refl)
 
-line-end-requires-2 : tie.Need-line-end-requires-2 Inv-loop μ-loop
-line-end-requires-2 c κs = search needs
-
-sub-read-cue : tie.Need-sub-read-cue Inv-loop μ-loop
-sub-read-cue c = search needs
-
-part-read-cue-start : tie.Need-part-read-cue-start Inv-loop μ-loop
-part-read-cue-start c = search needs
-
 part-read-cue-end : tie.Need-part-read-cue-end Inv-loop μ-loop
 part-read-cue-end c = line-inside _ _ _ (c .line-end2 .ensures) (c .before .loop-test .taken)
-
-read-cue-requires : tie.Need-read-cue-requires Inv-loop μ-loop
-read-cue-requires c κs = search needs
-
-enum-told : tie.Need-enum-told Inv-loop μ-loop
-enum-told c = search needs
-
-same-length : tie.Need-same-length Inv-loop μ-loop
-same-length c = search needs
-
-same-length-2 : tie.Need-same-length-2 Inv-loop μ-loop
-same-length-2 c = search needs
 
 returns : tie.Need-returns Inv-loop μ-loop
 returns c =
@@ -60,12 +33,6 @@ returns c =
     let start = turn .before .before .before .before .before .before in
     let refusal = rw (c .enum-told .given .1) at (sym (c .before .before .read-cue .ensures)) in
     absurd (never-refused (turn .loop .inv .0 .judging) _ (line .line-end2 .ensures) (line .before .loop-test .taken) _ _ (start .pre .0) refusal)
-
-enum-known-start : tie.Need-enum-known-start Inv-loop μ-loop
-enum-known-start c = search needs
-
-cast-to : tie.Need-cast-to Inv-loop μ-loop
-cast-to c = search needs
 
 render-segment-requires : tie.Need-render-segment-requires Inv-loop μ-loop
 render-segment-requires c κs =
@@ -77,9 +44,6 @@ render-segment-requires c κs =
     let w = now .loop .inv in
     let at = cue-inside (w .0) _ (line .line-end2 .ensures) (line .before .loop-test .taken) _ _ cue in
     (at .0, omega (arith, at .1, w .0 .room), omega (arith, at .1, w .1, start .pre .1 .1))
-
-strike-requires : tie.Need-strike-requires Inv-loop μ-loop
-strike-requires c κs = search needs
 
 add-least-start : tie.Need-add-least-start Inv-loop μ-loop
 add-least-start c =
@@ -123,12 +87,6 @@ render-segment-requires-2 c κs =
     let w = now .loop .inv in
     (w .0 .inside, w .0 .room, omega (arith, w .1, start .pre .1 .1))
 
-same-length-3 : tie.Need-same-length-3 Inv-loop μ-loop
-same-length-3 c = search needs
-
-same-length-4 : tie.Need-same-length-4 Inv-loop μ-loop
-same-length-4 c = search needs
-
 returns-2 : tie.Need-returns-2 Inv-loop μ-loop
 returns-2 c =
     let played = c .before .before .before .before in
@@ -138,30 +96,7 @@ returns-2 c =
 pub render-lines-spec : {M : Type 1} → statement M
 render-lines-spec =
     tie.close
-    (tie.spec
-    Inv-loop
-    μ-loop
-    start-requires
-    line-end-requires
-    loop-holds
-    line-end-requires-2
-    sub-read-cue
-    part-read-cue-start
-    part-read-cue-end
-    read-cue-requires
-    enum-told
-    same-length
-    same-length-2
-    returns
-    enum-known-start
-    cast-to
-    render-segment-requires
-    strike-requires
-    add-least-start
-    add-count
-    loop-less
-    loop-again
-    render-segment-requires-2
-    same-length-3
-    same-length-4
-    returns-2)
+    (tie.spec Inv-loop μ-loop (λ c κs. search needs) (λ c κs. search needs) loop-holds (λ c κs. search needs) (λ c. search needs) (λ c. search needs)
+    part-read-cue-end (λ c κs. search needs) (λ c. search needs) (λ c. search needs) (λ c. search needs) returns (λ c. search needs)
+    (λ c. search needs) render-segment-requires (λ c κs. search needs) add-least-start add-count loop-less loop-again render-segment-requires-2
+    (λ c. search needs) (λ c. search needs) returns-2)

@@ -7,27 +7,6 @@ use borrow.Author.Needs.{needs}
 use Rattle.cue_render.proofs.render_segment.Statement.{statement}
 use Rattle.cue_render.proofs.render_segment.Tie as tie
 
-mul-segment : tie.Need-mul-segment
-mul-segment c = search needs
-
-sub-segment : tie.Need-sub-segment
-sub-segment c = search needs
-
-part-segment-start : tie.Need-part-segment-start
-part-segment-start c = search needs
-
-part-segment-end : tie.Need-part-segment-end
-part-segment-end c = search needs
-
-segment-requires : tie.Need-segment-requires
-segment-requires c κs = search needs
-
-same-length : tie.Need-same-length
-same-length c = search needs
-
-same-length-2 : tie.Need-same-length-2
-same-length-2 c = search needs
-
 returns : tie.Need-returns
 returns c =
     let s = c .before .before .before .before .before .before .before .before .before in
@@ -40,12 +19,5 @@ returns c =
 pub render-segment-spec : {M : Type 1} → statement M
 render-segment-spec =
     tie.close
-    (tie.spec
-    mul-segment
-    sub-segment
-    part-segment-start
-    part-segment-end
-    segment-requires
-    same-length
-    same-length-2
-    returns)
+    (tie.spec (λ c. search needs) (λ c. search needs) (λ c. search needs) (λ c. search needs) (λ c κs. search needs) (λ c. search needs)
+    (λ c. search needs) returns)

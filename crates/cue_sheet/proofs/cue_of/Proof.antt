@@ -22,18 +22,6 @@ float-from-bits-decay c = passed-number isUnit nan-unit _ (knobs-in _ (c .before
 float-from-bits-c : tie.Need-float-from-bits-c
 float-from-bits-c c = passed-number isUnit nan-unit _ (knobs-in _ (c .before .before .before .before .before .pre) .c-in)
 
-enum-told : tie.Need-enum-told
-enum-told c = search needs
-
-enum-told-2 : tie.Need-enum-told-2
-enum-told-2 c = search needs
-
-enum-told-3 : tie.Need-enum-told-3
-enum-told-3 c = search needs
-
-enum-told-4 : tie.Need-enum-told-4
-enum-told-4 c = search needs
-
 returns : tie.Need-returns
 unfolding cueOf
 returns c = rw (c .enum-told .given .1)
@@ -53,17 +41,5 @@ returns-4 c = rw (c .enum-told4 .given .1)
 pub cue-of-spec : {M : Type 1} → statement M
 cue-of-spec =
     tie.close
-    (tie.spec
-    float-from-bits-accent
-    float-from-bits-f0
-    float-from-bits-a
-    float-from-bits-decay
-    float-from-bits-c
-    enum-told
-    enum-told-2
-    enum-told-3
-    enum-told-4
-    returns
-    returns-2
-    returns-3
-    returns-4)
+    (tie.spec float-from-bits-accent float-from-bits-f0 float-from-bits-a float-from-bits-decay float-from-bits-c (λ c. search needs)
+    (λ c. search needs) (λ c. search needs) (λ c. search needs) returns returns-2 returns-3 returns-4)

@@ -3,14 +3,8 @@ use borrow.Author.Needs.{needs}
 use Rattle.cue_sheet.proofs.decimal_at.Statement.{statement}
 use Rattle.cue_sheet.proofs.decimal_at.Tie as tie
 
-field-requires : tie.Need-field-requires
-field-requires c κs = search needs
-
-decimal-requires : tie.Need-decimal-requires
-decimal-requires c κs = search needs
-
 returns : tie.Need-returns
 returns c = cc
 
 pub decimal-at-spec : {M : Type 1} → statement M
-decimal-at-spec = tie.close (tie.spec field-requires decimal-requires returns)
+decimal-at-spec = tie.close (tie.spec (λ c κs. search needs) (λ c κs. search needs) returns)

@@ -4,33 +4,15 @@ use borrow.Author.Needs.{needs}
 use Rattle.cue_sheet.proofs.fields_of.Statement.{statement}
 use Rattle.cue_sheet.proofs.fields_of.Tie as tie
 
-enum-known-start : tie.Need-enum-known-start
-enum-known-start c = search needs
-
-enum-told : tie.Need-enum-told
-enum-told c = search needs
-
 returns : tie.Need-returns
 unfolding fieldsOf
 returns c = rw (c .enum-told .given .1)
-
-enum-known-voice : tie.Need-enum-known-voice
-enum-known-voice c = search needs
-
-enum-told-2 : tie.Need-enum-told-2
-enum-told-2 c = search needs
 
 returns-2 : tie.Need-returns-2
 unfolding fieldsOf
 returns-2 c =
     let start = c .before .before .before in
     rw (start .start .given .1, c .enum-told2 .given .1)
-
-enum-known-patterns : tie.Need-enum-known-patterns
-enum-known-patterns c = search needs
-
-enum-told-3 : tie.Need-enum-told-3
-enum-told-3 c = search needs
 
 returns-3 : tie.Need-returns-3
 unfolding fieldsOf
@@ -50,14 +32,5 @@ returns-4 c =
 pub fields-of-spec : {M : Type 1} → statement M
 fields-of-spec =
     tie.close
-    (tie.spec
-    enum-known-start
-    enum-told
-    returns
-    enum-known-voice
-    enum-told-2
-    returns-2
-    enum-known-patterns
-    enum-told-3
-    returns-3
-    returns-4)
+    (tie.spec (λ c. search needs) (λ c. search needs) returns (λ c. search needs) (λ c. search needs) returns-2 (λ c. search needs)
+    (λ c. search needs) returns-3 returns-4)

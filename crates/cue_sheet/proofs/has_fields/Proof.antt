@@ -4,15 +4,6 @@ use borrow.Author.Needs.{needs}
 use Rattle.cue_sheet.proofs.has_fields.Statement.{statement}
 use Rattle.cue_sheet.proofs.has_fields.Tie as tie
 
-ended-requires : tie.Need-ended-requires
-ended-requires c κs = search needs
-
-body-requires : tie.Need-body-requires
-body-requires c κs = search needs
-
-field-count-requires : tie.Need-field-count-requires
-field-count-requires c κs = search needs
-
 returns : tie.Need-returns
 unfolding hasFields
 returns c = rw (← c .before .before .before .ended .ensures, c .before .before .if1 .taken, ← c .before .body .ensures, ← c .field-count .ensures)
@@ -22,5 +13,4 @@ unfolding hasFields
 returns-2 c = rw (← c .before .ended .ensures, c .if1 .left)
 
 pub has-fields-spec : {M : Type 1} → statement M
-has-fields-spec =
-    tie.close (tie.spec ended-requires body-requires field-count-requires returns returns-2)
+has-fields-spec = tie.close (tie.spec (λ c κs. search needs) (λ c κs. search needs) (λ c κs. search needs) returns returns-2)

@@ -5,21 +5,9 @@ use borrow.Author.Needs.{needs}
 use Rattle.cue_sheet.proofs.head_of.Statement.{statement}
 use Rattle.cue_sheet.proofs.head_of.Tie as tie
 
-enum-known-rate : tie.Need-enum-known-rate
-enum-known-rate c = search needs
-
-enum-told : tie.Need-enum-told
-enum-told c = search needs
-
 returns : tie.Need-returns
 unfolding headOf
 returns c = rw (c .enum-told .given .1)
-
-enum-known-length : tie.Need-enum-known-length
-enum-known-length c = search needs
-
-enum-told-2 : tie.Need-enum-told-2
-enum-told-2 c = search needs
 
 returns-2 : tie.Need-returns-2
 unfolding headOf
@@ -44,12 +32,4 @@ returns-4 c =
 pub head-of-spec : {M : Type 1} → statement M
 head-of-spec =
     tie.close
-    (tie.spec
-    enum-known-rate
-    enum-told
-    returns
-    enum-known-length
-    enum-told-2
-    returns-2
-    returns-3
-    returns-4)
+    (tie.spec (λ c. search needs) (λ c. search needs) returns (λ c. search needs) (λ c. search needs) returns-2 returns-3 returns-4)

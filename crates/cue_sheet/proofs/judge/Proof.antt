@@ -17,20 +17,8 @@ Inv-loop sheet first rate length at₀ cues₀ least-start₀ at cues least-star
 abbrev μ-loop : tie.MeasureT-loop
 μ-loop sheet first rate length at₀ cues₀ least-start₀ at cues least-start = List.length sheet - at
 
-line-end-requires : tie.Need-line-end-requires Inv-loop μ-loop
-line-end-requires c κs = search needs
-
 slice-aggregate-read-first-line : tie.Need-slice-aggregate-read-first-line Inv-loop μ-loop
 slice-aggregate-read-first-line c = sym (length-take-le _ _ (first-inside _ _ (c .before .line-end .ensures)))
-
-read-first-line-requires : tie.Need-read-first-line-requires Inv-loop μ-loop
-read-first-line-requires c κs = search needs
-
-enum-known-rate : tie.Need-enum-known-rate Inv-loop μ-loop
-enum-known-rate c = search needs
-
-enum-told : tie.Need-enum-told Inv-loop μ-loop
-enum-told c = search needs
 
 returns : tie.Need-returns Inv-loop μ-loop
 returns c =
@@ -42,23 +30,8 @@ loop-holds c =
     let head = rw (c .before .rate .given .1) at (sym (c .before .before .before .read-first-line .ensures)) in
     first-read _ _ (c .before .before .before .before .before .line-end .ensures) _ _ head
 
-line-end-requires-2 : tie.Need-line-end-requires-2 Inv-loop μ-loop
-line-end-requires-2 c κs = search needs
-
-sub-read-cue : tie.Need-sub-read-cue Inv-loop μ-loop
-sub-read-cue c = search needs
-
-part-read-cue-start : tie.Need-part-read-cue-start Inv-loop μ-loop
-part-read-cue-start c = search needs
-
 part-read-cue-end : tie.Need-part-read-cue-end Inv-loop μ-loop
 part-read-cue-end c = line-inside _ _ _ (c .line-end2 .ensures) (c .before .loop-test .taken)
-
-read-cue-requires : tie.Need-read-cue-requires Inv-loop μ-loop
-read-cue-requires c κs = search needs
-
-enum-known-refusal : tie.Need-enum-known-refusal Inv-loop μ-loop
-enum-known-refusal c = search needs
 
 add-t21 : tie.Need-add-t21 Inv-loop μ-loop
 add-t21 c = omega (arith, c .before .before .before .before .before .before .before .loop .inv .few)
@@ -68,9 +41,6 @@ returns-2 c =
     let line = c .before .before .before .before .before in
     let refusal = rw (c .before .refusal .given .1) at (sym (c .before .before .before .read-cue .ensures)) in
     line-stops (line .before .before .loop .inv) _ (line .line-end2 .ensures) (line .before .loop-test .taken) _ refusal
-
-enum-known-start : tie.Need-enum-known-start Inv-loop μ-loop
-enum-known-start c = search needs
 
 add-least-start : tie.Need-add-least-start Inv-loop μ-loop
 add-least-start c =
@@ -98,27 +68,6 @@ returns-3 c = all-accepted (c .before .loop .inv) (c .loop-test .left)
 pub judge-spec : {M : Type 1} → statement M
 judge-spec =
     tie.close
-    (tie.spec
-    Inv-loop
-    μ-loop
-    line-end-requires
-    slice-aggregate-read-first-line
-    read-first-line-requires
-    enum-known-rate
-    enum-told
-    returns
-    loop-holds
-    line-end-requires-2
-    sub-read-cue
-    part-read-cue-start
-    part-read-cue-end
-    read-cue-requires
-    enum-known-refusal
-    add-t21
-    returns-2
-    enum-known-start
-    add-least-start
-    add-cues
-    loop-less
-    loop-again
-    returns-3)
+    (tie.spec Inv-loop μ-loop (λ c κs. search needs) slice-aggregate-read-first-line (λ c κs. search needs) (λ c. search needs) (λ c. search needs)
+    returns loop-holds (λ c κs. search needs) (λ c. search needs) (λ c. search needs) part-read-cue-end (λ c κs. search needs) (λ c. search needs)
+    add-t21 returns-2 (λ c. search needs) add-least-start add-cues loop-less loop-again returns-3)

@@ -12,27 +12,9 @@ returns : tie.Need-returns
 unfolding readCue onFields
 returns c = rw (le-ltb _ _ (c .if1 .taken))
 
-read-fields-requires : tie.Need-read-fields-requires
-read-fields-requires c κs = search needs
-
-enum-known-fields : tie.Need-enum-known-fields
-enum-known-fields c = search needs
-
-enum-told : tie.Need-enum-told
-enum-told c = search needs
-
 returns-2 : tie.Need-returns-2
 unfolding readCue onFields
 returns-2 c = rw (lt-ltb _ _ (c .before .before .before .if1 .left), ← c .before .before .read-fields .ensures, c .enum-told .given .1)
-
-asked-requires : tie.Need-asked-requires
-asked-requires c κs = search needs
-
-enum-known-answer : tie.Need-enum-known-answer
-enum-known-answer c = search needs
-
-enum-told-2 : tie.Need-enum-told-2
-enum-told-2 c = search needs
 
 cue-of-requires : tie.Need-cue-of-requires
 cue-of-requires c κs = line-knobs _ _ _ (zero-of _ _ (c .before .before .before .asked .ensures) (c .before .enum-told2 .given .1))
@@ -53,15 +35,5 @@ returns-4 c =
 pub read-cue-spec : {M : Type 1} → statement M
 read-cue-spec =
     tie.close
-    (tie.spec
-    returns
-    read-fields-requires
-    enum-known-fields
-    enum-told
-    returns-2
-    asked-requires
-    enum-known-answer
-    enum-told-2
-    cue-of-requires
-    returns-3
-    returns-4)
+    (tie.spec returns (λ c κs. search needs) (λ c. search needs) (λ c. search needs) returns-2 (λ c κs. search needs) (λ c. search needs)
+    (λ c. search needs) cue-of-requires returns-3 returns-4)

@@ -5,24 +5,9 @@ use borrow.Author.Needs.{needs}
 use Rattle.cue_sheet.proofs.read_first_line.Statement.{statement}
 use Rattle.cue_sheet.proofs.read_first_line.Tie as tie
 
-has-fields-requires : tie.Need-has-fields-requires
-has-fields-requires c κs = search needs
-
 returns : tie.Need-returns
 unfolding readFirstLine
 returns c = rw (← c .before .has-fields .ensures, not-true (c .before .has-fields .result) (c .if1 .taken))
-
-body-requires : tie.Need-body-requires
-body-requires c κs = search needs
-
-decimal-at-requires : tie.Need-decimal-at-requires
-decimal-at-requires c κs = search needs
-
-decimal-at-requires-2 : tie.Need-decimal-at-requires-2
-decimal-at-requires-2 c κs = search needs
-
-head-of-requires : tie.Need-head-of-requires
-head-of-requires c κs = search needs
 
 returns-2 : tie.Need-returns-2
 unfolding readFirstLine
@@ -33,11 +18,4 @@ returns-2 c =
 pub read-first-line-spec : {M : Type 1} → statement M
 read-first-line-spec =
     tie.close
-    (tie.spec
-    has-fields-requires
-    returns
-    body-requires
-    decimal-at-requires
-    decimal-at-requires-2
-    head-of-requires
-    returns-2)
+    (tie.spec (λ c κs. search needs) returns (λ c κs. search needs) (λ c κs. search needs) (λ c κs. search needs) (λ c κs. search needs) returns-2)

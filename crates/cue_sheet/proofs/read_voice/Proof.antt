@@ -9,9 +9,6 @@ use Rattle.cue_sheet.proofs.read_voice.Tie as tie
 returns : tie.Need-returns
 returns c = no-letter _ (c .if1 .taken)
 
-shared-slice-read-letter : tie.Need-shared-slice-read-letter
-shared-slice-read-letter c = search needs
-
 returns-2 : tie.Need-returns-2
 unfolding voiceOf
 returns-2 c = rw (one-letter _ (c .before .before .if1 .left), c .match .keys1)
@@ -35,6 +32,4 @@ returns-6 c =
     rw (one-letter _ (c .before .before .if1 .left), ne-eqb _ _ (r .0 .0 .0 .1), ne-eqb _ _ (r .0 .0 .1), ne-eqb _ _ (r .0 .1), ne-eqb _ _ (r .1))
 
 pub read-voice-spec : {M : Type 1} → statement M
-read-voice-spec =
-    tie.close
-    (tie.spec returns shared-slice-read-letter returns-2 returns-3 returns-4 returns-5 returns-6)
+read-voice-spec = tie.close (tie.spec returns (λ c. search needs) returns-2 returns-3 returns-4 returns-5 returns-6)

@@ -7,24 +7,6 @@ use Rattle.hihat.specs.Hihat.{settings}
 use Rattle.hihat.proofs.block_settings.Statement.{statement}
 use Rattle.hihat.proofs.block_settings.Tie as tie
 
-semitones-to-ratio-requires : tie.Need-semitones-to-ratio-requires
-semitones-to-ratio-requires c κs = search needs
-
-unwrap-or-requires : tie.Need-unwrap-or-requires
-unwrap-or-requires c κs = search needs
-
-semitones-to-ratio-requires-2 : tie.Need-semitones-to-ratio-requires-2
-semitones-to-ratio-requires-2 c κs = search needs
-
-unwrap-or-requires-2 : tie.Need-unwrap-or-requires-2
-unwrap-or-requires-2 c κs = search needs
-
-increments-requires : tie.Need-increments-requires
-increments-requires c κs = search needs
-
-clamp-requires : tie.Need-clamp-requires
-clamp-requires c κs = search needs
-
 returns : tie.Need-returns
 unfolding settings round ofBits
 returns c =
@@ -46,11 +28,5 @@ returns c =
 pub block-settings-spec : {M : Type 1} → statement M
 block-settings-spec =
     tie.close
-    (tie.spec
-    semitones-to-ratio-requires
-    unwrap-or-requires
-    semitones-to-ratio-requires-2
-    unwrap-or-requires-2
-    increments-requires
-    clamp-requires
-    returns)
+    (tie.spec (λ c κs. search needs) (λ c κs. search needs) (λ c κs. search needs) (λ c κs. search needs) (λ c κs. search needs)
+    (λ c κs. search needs) returns)

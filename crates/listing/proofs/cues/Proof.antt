@@ -7,18 +7,6 @@ use borrow.Author.Needs.{needs}
 use Rattle.listing.proofs.cues.Statement.{statement}
 use Rattle.listing.proofs.cues.Tie as tie
 
-slice-aggregate-render : tie.Need-slice-aggregate-render
-slice-aggregate-render c = search needs
-
-render-requires : tie.Need-render-requires
-render-requires c κs = search needs
-
-enum-known-length : tie.Need-enum-known-length
-enum-known-length c = search needs
-
-cast-samples : tie.Need-cast-samples
-cast-samples c = search needs
-
 array-share-prefix-samples : tie.Need-array-share-prefix-samples
 array-share-prefix-samples c =
     let l = c .before .before .before .before .before in
@@ -30,18 +18,6 @@ slice-aggregate-put-listing c =
     let l = c .before .before .before .before .before .before in
     let known = rw (c .before .before .before .length .given .1) at (sym (l .render .ensures .0)) in
     sym (length-take-le _ _ (omega (arith, longest _ _ refl known, l .render .kept .1 .0)))
-
-put-listing-requires : tie.Need-put-listing-requires
-put-listing-requires c κs = search needs
-
-enum-known-refusal : tie.Need-enum-known-refusal
-enum-known-refusal c = search needs
-
-cast-put-refused : tie.Need-cast-put-refused
-cast-put-refused c = search needs
-
-put-refused-requires : tie.Need-put-refused-requires
-put-refused-requires c κs = search needs
 
 returns : tie.Need-returns
 returns c =
@@ -58,16 +34,5 @@ returns-2 c =
 pub cues-spec : {M : Type 1} → statement M
 cues-spec =
     tie.close
-    (tie.spec
-    slice-aggregate-render
-    render-requires
-    enum-known-length
-    cast-samples
-    array-share-prefix-samples
-    slice-aggregate-put-listing
-    put-listing-requires
-    enum-known-refusal
-    cast-put-refused
-    put-refused-requires
-    returns
-    returns-2)
+    (tie.spec (λ c. search needs) (λ c κs. search needs) (λ c. search needs) (λ c. search needs) array-share-prefix-samples
+    slice-aggregate-put-listing (λ c κs. search needs) (λ c. search needs) (λ c. search needs) (λ c κs. search needs) returns returns-2)

@@ -9,12 +9,6 @@ use borrow.Author.Needs.{needs}
 use Rattle.listing.proofs.draws.Statement.{statement}
 use Rattle.listing.proofs.draws.Tie as tie
 
-read-request-requires : tie.Need-read-request-requires
-read-request-requires c κs = search needs
-
-put-answer-requires : tie.Need-put-answer-requires
-put-answer-requires c κs = search needs
-
 returns : tie.Need-returns
 unfolding text
 returns c =
@@ -24,4 +18,4 @@ returns c =
     whole w fits
 
 pub draws-spec : {M : Type 1} → statement M
-draws-spec = tie.close (tie.spec read-request-requires put-answer-requires returns)
+draws-spec = tie.close (tie.spec (λ c κs. search needs) (λ c κs. search needs) returns)

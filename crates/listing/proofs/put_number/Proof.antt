@@ -4,17 +4,8 @@ use borrow.Author.Needs.{needs}
 use Rattle.listing.proofs.put_number.Statement.{statement}
 use Rattle.listing.proofs.put_number.Tie as tie
 
-decimal-requires : tie.Need-decimal-requires
-decimal-requires c κs = search needs
-
-byte-requires : tie.Need-byte-requires
-byte-requires c κs = search needs
-
-same-length : tie.Need-same-length
-same-length c = search needs
-
 returns : tie.Need-returns
 returns c = then (c .before .before .before .before .before .before .decimal .ensures) (c .before .before .byte .ensures)
 
 pub put-number-spec : {M : Type 1} → statement M
-put-number-spec = tie.close (tie.spec decimal-requires byte-requires same-length returns)
+put-number-spec = tie.close (tie.spec (λ c κs. search needs) (λ c κs. search needs) (λ c. search needs) returns)

@@ -4,23 +4,10 @@ use borrow.Author.Needs.{needs}
 use Rattle.listing.proofs.put_pattern.Statement.{statement}
 use Rattle.listing.proofs.put_pattern.Tie as tie
 
-to-bits-requires : tie.Need-to-bits-requires
-to-bits-requires c κs = search needs
-
-pattern-requires : tie.Need-pattern-requires
-pattern-requires c κs = search needs
-
-byte-requires : tie.Need-byte-requires
-byte-requires c κs = search needs
-
-same-length : tie.Need-same-length
-same-length c = search needs
-
 returns : tie.Need-returns
 returns c =
     let pattern = rw (c .before .before .before .before .before .before .before .to-bits .ensures) at (c .before .before .before .before .before .before .pattern .ensures) in
     then pattern (c .before .before .byte .ensures)
 
 pub put-pattern-spec : {M : Type 1} → statement M
-put-pattern-spec =
-    tie.close (tie.spec to-bits-requires pattern-requires byte-requires same-length returns)
+put-pattern-spec = tie.close (tie.spec (λ c κs. search needs) (λ c κs. search needs) (λ c κs. search needs) (λ c. search needs) returns)

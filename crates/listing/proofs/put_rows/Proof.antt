@@ -19,21 +19,6 @@ abbrev μ-loop : tie.MeasureT-loop
 loop-holds : tie.Need-loop-holds Inv-loop μ-loop
 loop-holds c = rw sub-zero (begin _ _ _)
 
-get-float-requires : tie.Need-get-float-requires Inv-loop μ-loop
-get-float-requires c κs = search needs
-
-add-put-row : tie.Need-add-put-row Inv-loop μ-loop
-add-put-row c = search needs
-
-put-row-requires : tie.Need-put-row-requires Inv-loop μ-loop
-put-row-requires c κs = search needs
-
-add-drawn : tie.Need-add-drawn Inv-loop μ-loop
-add-drawn c = search needs
-
-loop-less : tie.Need-loop-less Inv-loop μ-loop
-loop-less c = search needs
-
 loop-again : tie.Need-loop-again Inv-loop μ-loop
 unfolding rows
 loop-again c =
@@ -56,15 +41,5 @@ returns c =
 pub put-rows-spec : {M : Type 1} → statement M
 put-rows-spec =
     tie.close
-    (tie.spec
-    Inv-loop
-    μ-loop
-    loop-holds
-    get-float-requires
-    add-put-row
-    put-row-requires
-    add-drawn
-    loop-less
-    loop-again
-    same-length
-    returns)
+    (tie.spec Inv-loop μ-loop loop-holds (λ c κs. search needs) (λ c. search needs) (λ c κs. search needs) (λ c. search needs) (λ c. search needs)
+    loop-again same-length returns)

@@ -6,15 +6,6 @@ use borrow.Author.Needs.{needs}
 use Rattle.listing.proofs.put_sample.Statement.{statement}
 use Rattle.listing.proofs.put_sample.Tie as tie
 
-put-number-requires : tie.Need-put-number-requires
-put-number-requires c κs = search needs
-
-put-pattern-requires : tie.Need-put-pattern-requires
-put-pattern-requires c κs = search needs
-
-same-length : tie.Need-same-length
-same-length c = search needs
-
 returns : tie.Need-returns
 unfolding row
 returns c =
@@ -22,4 +13,4 @@ returns c =
     simp append-assoc (simp append-assoc at (then index (c .before .before .put-pattern .ensures)))
 
 pub put-sample-spec : {M : Type 1} → statement M
-put-sample-spec = tie.close (tie.spec put-number-requires put-pattern-requires same-length returns)
+put-sample-spec = tie.close (tie.spec (λ c κs. search needs) (λ c κs. search needs) (λ c. search needs) returns)

@@ -5,27 +5,9 @@ use borrow.Author.Needs.{needs}
 use Rattle.listing.proofs.read_numbers.Statement.{statement}
 use Rattle.listing.proofs.read_numbers.Tie as tie
 
-decimal-requires : tie.Need-decimal-requires
-decimal-requires c κs = search needs
-
-enum-known-s : tie.Need-enum-known-s
-enum-known-s c = search needs
-
-enum-told : tie.Need-enum-told
-enum-told c = search needs
-
 returns : tie.Need-returns
 unfolding readNumbers onNumber
 returns c = rw (← c .before .before .decimal .ensures, c .enum-told .given .1)
-
-decimal-requires-2 : tie.Need-decimal-requires-2
-decimal-requires-2 c κs = search needs
-
-enum-known-n : tie.Need-enum-known-n
-enum-known-n c = search needs
-
-enum-told-2 : tie.Need-enum-told-2
-enum-told-2 c = search needs
 
 returns-2 : tie.Need-returns-2
 unfolding readNumbers onNumber
@@ -44,13 +26,5 @@ returns-3 c =
 pub read-numbers-spec : {M : Type 1} → statement M
 read-numbers-spec =
     tie.close
-    (tie.spec
-    decimal-requires
-    enum-known-s
-    enum-told
-    returns
-    decimal-requires-2
-    enum-known-n
-    enum-told-2
-    returns-2
-    returns-3)
+    (tie.spec (λ c κs. search needs) (λ c. search needs) (λ c. search needs) returns (λ c κs. search needs) (λ c. search needs) (λ c. search needs)
+    returns-2 returns-3)

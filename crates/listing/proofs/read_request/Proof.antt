@@ -8,18 +8,9 @@ use borrow.Author.Needs.{needs}
 use Rattle.listing.proofs.read_request.Statement.{statement}
 use Rattle.listing.proofs.read_request.Tie as tie
 
-ended-requires : tie.Need-ended-requires
-ended-requires c κs = search needs
-
 returns : tie.Need-returns
 unfolding readRequest
 returns c = rw (← c .before .ended .ensures, not-true (c .before .ended .result) (c .if1 .taken))
-
-body-requires : tie.Need-body-requires
-body-requires c κs = search needs
-
-field-count-requires : tie.Need-field-count-requires
-field-count-requires c κs = search needs
 
 returns-2 : tie.Need-returns-2
 unfolding readRequest
@@ -27,15 +18,6 @@ returns-2 c =
     let yes = not-false (c .before .before .before .before .ended .result) (c .before .before .before .if1 .left) in
     let other = other-fields _ (λ two. c .if2 .taken (c .before .field-count .ensures ∙ two)) in
     rw (← c .before .before .before .before .ended .ensures, yes, ← c .before .before .body .ensures) (sym other)
-
-field-requires : tie.Need-field-requires
-field-requires c κs = search needs
-
-field-requires-2 : tie.Need-field-requires-2
-field-requires-2 c κs = search needs
-
-read-numbers-requires : tie.Need-read-numbers-requires
-read-numbers-requires c κs = search needs
 
 returns-3 : tie.Need-returns-3
 unfolding readRequest field
@@ -48,13 +30,5 @@ returns-3 c =
 pub read-request-spec : {M : Type 1} → statement M
 read-request-spec =
     tie.close
-    (tie.spec
-    ended-requires
-    returns
-    body-requires
-    field-count-requires
-    returns-2
-    field-requires
-    field-requires-2
-    read-numbers-requires
-    returns-3)
+    (tie.spec (λ c κs. search needs) returns (λ c κs. search needs) (λ c κs. search needs) returns-2 (λ c κs. search needs) (λ c κs. search needs)
+    (λ c κs. search needs) returns-3)

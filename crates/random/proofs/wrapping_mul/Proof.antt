@@ -7,11 +7,5 @@ use Rattle.random.proofs.wrapping_mul.Tie as tie
 mul-product : tie.Need-mul-product
 mul-product c = record { fits = product-fits 32 (search needs) (search needs) }
 
-cast-result : tie.Need-cast-result
-cast-result c = search needs
-
-returns : tie.Need-returns
-returns c = search needs
-
 pub wrapping-mul-spec : {M : Type 1} → statement M
-wrapping-mul-spec = tie.close (tie.spec mul-product cast-result returns)
+wrapping-mul-spec = tie.close (tie.spec mul-product (λ c. search needs) (λ c. search needs))

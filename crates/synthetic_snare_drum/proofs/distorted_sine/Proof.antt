@@ -5,15 +5,9 @@ use Rattle.synthetic_snare_drum.specs.SyntheticSnareDrum.{distortedSine}
 use Rattle.synthetic_snare_drum.proofs.distorted_sine.Statement.{statement}
 use Rattle.synthetic_snare_drum.proofs.distorted_sine.Tie as tie
 
-folded-requires : tie.Need-folded-requires
-folded-requires c κs = search needs
-
-one-plus-abs-requires : tie.Need-one-plus-abs-requires
-one-plus-abs-requires c κs = search needs
-
 returns : tie.Need-returns
 unfolding distortedSine round ofBits
 returns c = rw (c .one-plus-abs .ensures, c .before .folded .ensures)
 
 pub distorted-sine-spec : {M : Type 1} → statement M
-distorted-sine-spec = tie.close (tie.spec folded-requires one-plus-abs-requires returns)
+distorted-sine-spec = tie.close (tie.spec (λ c κs. search needs) (λ c κs. search needs) returns)

@@ -5,12 +5,9 @@ use Rattle.synthetic_snare_drum.specs.SyntheticSnareDrum.{resetNoiseAmou
 use Rattle.synthetic_snare_drum.proofs.reset_noise_amount.Statement.{statement}
 use Rattle.synthetic_snare_drum.proofs.reset_noise_amount.Tie as tie
 
-clamp-requires : tie.Need-clamp-requires
-clamp-requires c κs = search needs
-
 returns : tie.Need-returns
 unfolding resetNoiseAmount round ofBits
 returns c = rw (c .before .clamp .ensures)
 
 pub reset-noise-amount-spec : {M : Type 1} → statement M
-reset-noise-amount-spec = tie.close (tie.spec clamp-requires returns)
+reset-noise-amount-spec = tie.close (tie.spec (λ c κs. search needs) returns)

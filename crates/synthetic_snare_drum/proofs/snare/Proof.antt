@@ -5,12 +5,6 @@ use Rattle.synthetic_snare_drum.specs.SyntheticSnareDrum.{snare}
 use Rattle.synthetic_snare_drum.proofs.snare.Statement.{statement}
 use Rattle.synthetic_snare_drum.proofs.snare.Tie as tie
 
-process-requires : tie.Need-process-requires
-process-requires c κs = search needs
-
-process-requires-2 : tie.Need-process-requires-2
-process-requires-2 c κs = search needs
-
 returns : tie.Need-returns
 unfolding snare round ofBits
 returns c =
@@ -18,4 +12,4 @@ returns c =
     rw (s .process2 .ensures, s .before .process .ensures)
 
 pub snare-spec : {M : Type 1} → statement M
-snare-spec = tie.close (tie.spec process-requires process-requires-2 returns)
+snare-spec = tie.close (tie.spec (λ c κs. search needs) (λ c κs. search needs) returns)

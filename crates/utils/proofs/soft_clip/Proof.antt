@@ -5,9 +5,6 @@ use Rattle.utils.specs.Utils.{softClip}
 use Rattle.utils.proofs.soft_clip.Statement.{statement}
 use Rattle.utils.proofs.soft_clip.Tie as tie
 
-soft-limit-requires : tie.Need-soft-limit-requires
-soft-limit-requires c κs = search needs
-
 returns : tie.Need-returns
 unfolding softClip round ofBits
 returns c = rw (c .if1 .taken)
@@ -21,4 +18,4 @@ unfolding softClip round ofBits
 returns-3 c = rw (c .before .before .if1 .left, c .before .if2 .left, c .soft-limit .ensures)
 
 pub soft-clip-spec : {M : Type 1} → statement M
-soft-clip-spec = tie.close (tie.spec soft-limit-requires returns returns-2 returns-3)
+soft-clip-spec = tie.close (tie.spec (λ c κs. search needs) returns returns-2 returns-3)

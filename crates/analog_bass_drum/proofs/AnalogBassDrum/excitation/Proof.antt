@@ -5,21 +5,6 @@ use Rattle.analog_bass_drum.specs.AnalogBassDrum.{excitation}
 use Rattle.analog_bass_drum.proofs.AnalogBassDrum.excitation.Statement.{statement}
 use Rattle.analog_bass_drum.proofs.AnalogBassDrum.excitation.Tie as tie
 
-next-requires : tie.Need-next-requires
-next-requires c κs = search needs
-
-one-pole-requires : tie.Need-one-pole-requires
-one-pole-requires c κs = search needs
-
-diode-requires : tie.Need-diode-requires
-diode-requires c κs = search needs
-
-fm-pulse-requires : tie.Need-fm-pulse-requires
-fm-pulse-requires c κs = search needs
-
-one-pole-requires-2 : tie.Need-one-pole-requires-2
-one-pole-requires-2 c κs = search needs
-
 returns : tie.Need-returns
 unfolding excitation round ofBits
 returns c =
@@ -32,10 +17,4 @@ returns c =
 pub excitation-spec : {M : Type 1} → statement M
 excitation-spec =
     tie.close
-    (tie.spec
-    next-requires
-    one-pole-requires
-    diode-requires
-    fm-pulse-requires
-    one-pole-requires-2
-    returns)
+    (tie.spec (λ c κs. search needs) (λ c κs. search needs) (λ c κs. search needs) (λ c κs. search needs) (λ c κs. search needs) returns)

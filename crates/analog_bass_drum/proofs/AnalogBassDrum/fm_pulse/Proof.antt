@@ -12,9 +12,6 @@ returns : tie.Need-returns
 unfolding fmPulse round ofBits
 returns c = rw (c .before .before .if1 .taken)
 
-sub-remaining-samples : tie.Need-sub-remaining-samples
-sub-remaining-samples c = search needs
-
 returns-2 : tie.Need-returns-2
 unfolding fmPulse round ofBits
 returns-2 c =
@@ -34,4 +31,4 @@ returns-3 c =
     )
 
 pub fm-pulse-spec : {M : Type 1} → statement M
-fm-pulse-spec = tie.close (tie.spec returns sub-remaining-samples returns-2 returns-3)
+fm-pulse-spec = tie.close (tie.spec returns (λ c. search needs) returns-2 returns-3)

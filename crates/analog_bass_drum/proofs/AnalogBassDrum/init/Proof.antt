@@ -5,21 +5,6 @@ use Rattle.refusal.proofs.Laws.{arm-accepted, arm-refused}
 use Rattle.analog_bass_drum.proofs.AnalogBassDrum.init.Statement.{statement}
 use Rattle.analog_bass_drum.proofs.AnalogBassDrum.init.Tie as tie
 
-is-sample-rate-requires : tie.Need-is-sample-rate-requires
-is-sample-rate-requires c κs = search needs
-
-ask-requires : tie.Need-ask-requires
-ask-requires c κs = search needs
-
-enum-told : tie.Need-enum-told
-enum-told c = search needs
-
-enum-told-2 : tie.Need-enum-told-2
-enum-told-2 c = search needs
-
-initialized-requires : tie.Need-initialized-requires
-initialized-requires c κs = search needs
-
 returns : tie.Need-returns
 returns c =
     let s = c .before .before in
@@ -35,11 +20,4 @@ returns-2 c =
 pub init-spec : {M : Type 1} → statement M
 init-spec =
     tie.close
-    (tie.spec
-    is-sample-rate-requires
-    ask-requires
-    enum-told
-    enum-told-2
-    initialized-requires
-    returns
-    returns-2)
+    (tie.spec (λ c κs. search needs) (λ c κs. search needs) (λ c. search needs) (λ c. search needs) (λ c κs. search needs) returns returns-2)

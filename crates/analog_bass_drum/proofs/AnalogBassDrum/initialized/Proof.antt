@@ -5,19 +5,9 @@ use Rattle.analog_bass_drum.specs.AnalogBassDrum.{initialized}
 use Rattle.analog_bass_drum.proofs.AnalogBassDrum.initialized.Statement.{statement}
 use Rattle.analog_bass_drum.proofs.AnalogBassDrum.initialized.Tie as tie
 
-init-requires : tie.Need-init-requires
-init-requires c κs = search needs
-
-truncate-u32-requires : tie.Need-truncate-u32-requires
-truncate-u32-requires c κs = search needs
-
-truncate-u32-requires-2 : tie.Need-truncate-u32-requires-2
-truncate-u32-requires-2 c κs = search needs
-
 returns : tie.Need-returns
 unfolding initialized round ofBits
 returns c = rw (c .truncate-u322 .ensures, c .before .truncate-u32 .ensures, c .before .before .init .ensures)
 
 pub initialized-spec : {M : Type 1} → statement M
-initialized-spec =
-    tie.close (tie.spec init-requires truncate-u32-requires truncate-u32-requires-2 returns)
+initialized-spec = tie.close (tie.spec (λ c κs. search needs) (λ c κs. search needs) (λ c κs. search needs) returns)

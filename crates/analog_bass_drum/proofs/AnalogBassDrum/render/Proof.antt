@@ -6,32 +6,14 @@ use Rattle.analog_bass_drum.proofs.Laws.{knobs-in}
 use Rattle.analog_bass_drum.proofs.AnalogBassDrum.render.Statement.{statement}
 use Rattle.analog_bass_drum.proofs.AnalogBassDrum.render.Tie as tie
 
-asked-requires : tie.Need-asked-requires
-asked-requires c κs = search needs
-
-enum-told : tie.Need-enum-told
-enum-told c = search needs
-
-enum-told-2 : tie.Need-enum-told-2
-enum-told-2 c = search needs
-
 new-requires : tie.Need-new-requires
 new-requires c κs = knobs-in _ _ _ _ _ _ _ (zero-of _ _ (c .before .before .asked .ensures) (c .enum-told2 .given .1))
-
-triggered-requires : tie.Need-triggered-requires
-triggered-requires c κs = search needs
-
-run-requires : tie.Need-run-requires
-run-requires c κs = search needs
 
 returns : tie.Need-returns
 returns c =
     let known = c .before .before .asked .ensures in
     let told = c .enum-told .given .1 in
     (known, (sym (arm-refused _ _ _ _ known _ told), sym (arm-refused _ _ _ _ known _ told)))
-
-same-length : tie.Need-same-length
-same-length c = search needs
 
 returns-2 : tie.Need-returns-2
 returns-2 c =
@@ -45,13 +27,5 @@ returns-2 c =
 pub render-spec : {M : Type 1} → statement M
 render-spec =
     tie.close
-    (tie.spec
-    asked-requires
-    enum-told
-    enum-told-2
-    new-requires
-    triggered-requires
-    run-requires
-    returns
-    same-length
-    returns-2)
+    (tie.spec (λ c κs. search needs) (λ c. search needs) (λ c. search needs) new-requires (λ c κs. search needs) (λ c κs. search needs) returns
+    (λ c. search needs) returns-2)

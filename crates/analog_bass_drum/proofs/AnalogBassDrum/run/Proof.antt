@@ -34,32 +34,11 @@ joined c =
     (λ w. let k = l .inv .1 (not-false (l .at-rest) (w .0 .left)) in rw (w .1, w .2) (k .0, λ _. k .1))
     (c .if1 .came)
 
-excitation-requires : tie.Need-excitation-requires Inv-loop μ-loop
-excitation-requires c κs = search needs
-
-is-at-rest-requires : tie.Need-is-at-rest-requires Inv-loop μ-loop
-is-at-rest-requires c κs = search needs
-
 loop-holds : tie.Need-loop-holds Inv-loop μ-loop
 loop-holds c = (begin _ _ _ _ (omega arith), λ h. (c .before .excitation .ensures, c .is-at-rest .ensures .0 h))
 
-excitation-requires-2 : tie.Need-excitation-requires-2 Inv-loop μ-loop
-excitation-requires-2 c κs = search needs
-
-is-at-rest-requires-2 : tie.Need-is-at-rest-requires-2 Inv-loop μ-loop
-is-at-rest-requires-2 c κs = search needs
-
 step-requires : tie.Need-step-requires Inv-loop μ-loop
 step-requires c κs = joined c .0
-
-mul-out : tie.Need-mul-out Inv-loop μ-loop
-mul-out c = search needs
-
-slice-write-out : tie.Need-slice-write-out Inv-loop μ-loop
-slice-write-out c = search needs
-
-add-i : tie.Need-add-i Inv-loop μ-loop
-add-i c = search needs
 
 loop-less : tie.Need-loop-less Inv-loop μ-loop
 loop-less c = simp length-set (omega arith)
@@ -79,19 +58,5 @@ returns c = end-source _ _ _ _ _ _ (c .before .loop .inv .0) (c .loop-test .left
 pub run-spec : {M : Type 1} → statement M
 run-spec =
     tie.close
-    (tie.spec
-    Inv-loop
-    μ-loop
-    excitation-requires
-    is-at-rest-requires
-    loop-holds
-    excitation-requires-2
-    is-at-rest-requires-2
-    step-requires
-    mul-out
-    slice-write-out
-    add-i
-    loop-less
-    loop-again
-    same-length
-    returns)
+    (tie.spec Inv-loop μ-loop (λ c κs. search needs) (λ c κs. search needs) loop-holds (λ c κs. search needs) (λ c κs. search needs) step-requires
+    (λ c. search needs) (λ c. search needs) (λ c. search needs) loop-less loop-again same-length returns)

@@ -5,21 +5,6 @@ use Rattle.analog_bass_drum.specs.AnalogBassDrum.{step}
 use Rattle.analog_bass_drum.proofs.AnalogBassDrum.step.Statement.{statement}
 use Rattle.analog_bass_drum.proofs.AnalogBassDrum.step.Tie as tie
 
-fm-pulse-requires : tie.Need-fm-pulse-requires
-fm-pulse-requires c κs = search needs
-
-frequency-requires : tie.Need-frequency-requires
-frequency-requires c κs = search needs
-
-set-f-q-requires : tie.Need-set-f-q-requires
-set-f-q-requires c κs = search needs
-
-process-dual-requires : tie.Need-process-dual-requires
-process-dual-requires c κs = search needs
-
-one-pole-requires : tie.Need-one-pole-requires
-one-pole-requires c κs = search needs
-
 returns : tie.Need-returns
 unfolding step round ofBits
 returns c =
@@ -40,10 +25,4 @@ returns c =
 pub step-spec : {M : Type 1} → statement M
 step-spec =
     tie.close
-    (tie.spec
-    fm-pulse-requires
-    frequency-requires
-    set-f-q-requires
-    process-dual-requires
-    one-pole-requires
-    returns)
+    (tie.spec (λ c κs. search needs) (λ c κs. search needs) (λ c κs. search needs) (λ c κs. search needs) (λ c κs. search needs) returns)

@@ -6,12 +6,6 @@ use mathlib.Core.Path.{sym, _∙_}
 use Rattle.analog_snare_drum.proofs.AnalogSnareDrum.is_at_rest.Statement.{statement}
 use Rattle.analog_snare_drum.proofs.AnalogSnareDrum.is_at_rest.Tie as tie
 
-is-same-requires : tie.Need-is-same-requires
-is-same-requires c κs = search needs
-
-is-same-requires-2 : tie.Need-is-same-requires-2
-is-same-requires-2 c κs = search needs
-
 returns : tie.Need-returns
 returns c = (λ h. absurd (true≢false (sym h)), λ w. absurd (c .if1 .taken (w .remaining)))
 
@@ -25,4 +19,4 @@ returns-3 c =
     (λ h. record { remaining = s .before .if1 .left; pulse = pulse; lp = c .is-same2 .ensures .0 h }, λ w. c .is-same2 .ensures .1 (w .lp))
 
 pub is-at-rest-spec : {M : Type 1} → statement M
-is-at-rest-spec = tie.close (tie.spec returns is-same-requires returns-2 is-same-requires-2 returns-3)
+is-at-rest-spec = tie.close (tie.spec returns (λ c κs. search needs) returns-2 (λ c κs. search needs) returns-3)

@@ -5,15 +5,6 @@ use Rattle.analog_snare_drum.specs.AnalogSnareDrum.{noiseOutput}
 use Rattle.analog_snare_drum.proofs.AnalogSnareDrum.noise_output.Statement.{statement}
 use Rattle.analog_snare_drum.proofs.AnalogSnareDrum.noise_output.Tie as tie
 
-get-float-requires : tie.Need-get-float-requires
-get-float-requires c κs = search needs
-
-not-negative-requires : tie.Need-not-negative-requires
-not-negative-requires c κs = search needs
-
-process-requires : tie.Need-process-requires
-process-requires c κs = search needs
-
 returns : tie.Need-returns
 unfolding noiseOutput round ofBits
 returns c =
@@ -27,5 +18,4 @@ returns c =
     )
 
 pub noise-output-spec : {M : Type 1} → statement M
-noise-output-spec =
-    tie.close (tie.spec get-float-requires not-negative-requires process-requires returns)
+noise-output-spec = tie.close (tie.spec (λ c κs. search needs) (λ c κs. search needs) (λ c κs. search needs) returns)

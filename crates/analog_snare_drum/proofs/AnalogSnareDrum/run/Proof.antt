@@ -19,32 +19,11 @@ Inv-loop noise settings out₀ voice₀ state₀ e₀ at-rest₀ i₀ out voice 
 abbrev μ-loop : tie.MeasureT-loop
 μ-loop noise settings out₀ voice₀ state₀ e₀ at-rest₀ i₀ out voice state e at-rest i = length out - i
 
-excitation-requires : tie.Need-excitation-requires Inv-loop μ-loop
-excitation-requires c κs = search needs
-
-is-at-rest-requires : tie.Need-is-at-rest-requires Inv-loop μ-loop
-is-at-rest-requires c κs = search needs
-
 loop-holds : tie.Need-loop-holds Inv-loop μ-loop
 loop-holds c = (begin _ _ _ _ (omega arith), record { current = c .before .excitation .ensures; rest = c .is-at-rest .ensures .0 })
 
 step-requires : tie.Need-step-requires Inv-loop μ-loop
 step-requires c κs = c .before .loop .inv .1 .current
-
-mul-out : tie.Need-mul-out Inv-loop μ-loop
-mul-out c = search needs
-
-slice-write-out : tie.Need-slice-write-out Inv-loop μ-loop
-slice-write-out c = search needs
-
-add-i : tie.Need-add-i Inv-loop μ-loop
-add-i c = search needs
-
-excitation-requires-2 : tie.Need-excitation-requires-2 Inv-loop μ-loop
-excitation-requires-2 c κs = search needs
-
-is-at-rest-requires-2 : tie.Need-is-at-rest-requires-2 Inv-loop μ-loop
-is-at-rest-requires-2 c κs = search needs
 
 loop-less : tie.Need-loop-less Inv-loop μ-loop
 loop-less c = simp length-set (omega arith)
@@ -76,21 +55,5 @@ returns c = end-source _ _ _ _ _ _ (c .before .loop .inv .0) (c .loop-test .left
 pub run-spec : {M : Type 1} → statement M
 run-spec =
     tie.close
-    (tie.spec
-    Inv-loop
-    μ-loop
-    excitation-requires
-    is-at-rest-requires
-    loop-holds
-    step-requires
-    mul-out
-    slice-write-out
-    add-i
-    excitation-requires-2
-    is-at-rest-requires-2
-    loop-less
-    loop-again
-    loop-less-2
-    loop-again-2
-    same-length
-    returns)
+    (tie.spec Inv-loop μ-loop (λ c κs. search needs) (λ c κs. search needs) loop-holds step-requires (λ c. search needs) (λ c. search needs)
+    (λ c. search needs) (λ c κs. search needs) (λ c κs. search needs) loop-less loop-again loop-less-2 loop-again-2 same-length returns)

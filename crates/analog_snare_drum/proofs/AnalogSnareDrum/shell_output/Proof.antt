@@ -5,54 +5,6 @@ use Rattle.analog_snare_drum.specs.AnalogSnareDrum.{shellOutput}
 use Rattle.analog_snare_drum.proofs.AnalogSnareDrum.shell_output.Statement.{statement}
 use Rattle.analog_snare_drum.proofs.AnalogSnareDrum.shell_output.Tie as tie
 
-array-copy-out-mode-output : tie.Need-array-copy-out-mode-output
-array-copy-out-mode-output c = search needs
-
-array-read-mode-output : tie.Need-array-read-mode-output
-array-read-mode-output c = search needs
-
-mode-output-requires : tie.Need-mode-output-requires
-mode-output-requires c κs = search needs
-
-array-copy-out-mode-output-2 : tie.Need-array-copy-out-mode-output-2
-array-copy-out-mode-output-2 c = search needs
-
-array-read-mode-output-2 : tie.Need-array-read-mode-output-2
-array-read-mode-output-2 c = search needs
-
-mode-output-requires-2 : tie.Need-mode-output-requires-2
-mode-output-requires-2 c κs = search needs
-
-array-copy-out-mode-output-3 : tie.Need-array-copy-out-mode-output-3
-array-copy-out-mode-output-3 c = search needs
-
-array-read-mode-output-3 : tie.Need-array-read-mode-output-3
-array-read-mode-output-3 c = search needs
-
-mode-output-requires-3 : tie.Need-mode-output-requires-3
-mode-output-requires-3 c κs = search needs
-
-array-copy-out-mode-output-4 : tie.Need-array-copy-out-mode-output-4
-array-copy-out-mode-output-4 c = search needs
-
-array-read-mode-output-4 : tie.Need-array-read-mode-output-4
-array-read-mode-output-4 c = search needs
-
-mode-output-requires-4 : tie.Need-mode-output-requires-4
-mode-output-requires-4 c κs = search needs
-
-array-copy-out-mode-output-5 : tie.Need-array-copy-out-mode-output-5
-array-copy-out-mode-output-5 c = search needs
-
-array-read-mode-output-5 : tie.Need-array-read-mode-output-5
-array-read-mode-output-5 c = search needs
-
-mode-output-requires-5 : tie.Need-mode-output-requires-5
-mode-output-requires-5 c κs = search needs
-
-soft-clip-requires : tie.Need-soft-clip-requires
-soft-clip-requires c κs = search needs
-
 returns : tie.Need-returns
 unfolding shellOutput round ofBits
 returns c =
@@ -73,21 +25,6 @@ returns c =
 pub shell-output-spec : {M : Type 1} → statement M
 shell-output-spec =
     tie.close
-    (tie.spec
-    array-copy-out-mode-output
-    array-read-mode-output
-    mode-output-requires
-    array-copy-out-mode-output-2
-    array-read-mode-output-2
-    mode-output-requires-2
-    array-copy-out-mode-output-3
-    array-read-mode-output-3
-    mode-output-requires-3
-    array-copy-out-mode-output-4
-    array-read-mode-output-4
-    mode-output-requires-4
-    array-copy-out-mode-output-5
-    array-read-mode-output-5
-    mode-output-requires-5
-    soft-clip-requires
-    returns)
+    (tie.spec (λ c. search needs) (λ c. search needs) (λ c κs. search needs) (λ c. search needs) (λ c. search needs) (λ c κs. search needs)
+    (λ c. search needs) (λ c. search needs) (λ c κs. search needs) (λ c. search needs) (λ c. search needs) (λ c κs. search needs) (λ c. search needs)
+    (λ c. search needs) (λ c κs. search needs) (λ c κs. search needs) returns)

@@ -5,12 +5,6 @@ use Rattle.analog_snare_drum.specs.AnalogSnareDrum.{step}
 use Rattle.analog_snare_drum.proofs.AnalogSnareDrum.step.Statement.{statement}
 use Rattle.analog_snare_drum.proofs.AnalogSnareDrum.step.Tie as tie
 
-shell-output-requires : tie.Need-shell-output-requires
-shell-output-requires c κs = search needs
-
-noise-output-requires : tie.Need-noise-output-requires
-noise-output-requires c κs = search needs
-
 returns : tie.Need-returns
 unfolding step round ofBits
 returns c =
@@ -19,4 +13,4 @@ returns c =
     rw (c₁ .noise-output .ensures, c₂ .shell-output .ensures, c₂ .before .pre)
 
 pub step-spec : {M : Type 1} → statement M
-step-spec = tie.close (tie.spec shell-output-requires noise-output-requires returns)
+step-spec = tie.close (tie.spec (λ c κs. search needs) (λ c κs. search needs) returns)

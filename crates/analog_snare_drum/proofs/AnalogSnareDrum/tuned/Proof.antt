@@ -5,18 +5,9 @@ use Rattle.analog_snare_drum.specs.AnalogSnareDrum.{tuned}
 use Rattle.analog_snare_drum.proofs.AnalogSnareDrum.tuned.Statement.{statement}
 use Rattle.analog_snare_drum.proofs.AnalogSnareDrum.tuned.Tie as tie
 
-tuned-modes-requires : tie.Need-tuned-modes-requires
-tuned-modes-requires c κs = search needs
-
-clamp-requires : tie.Need-clamp-requires
-clamp-requires c κs = search needs
-
-set-f-q-requires : tie.Need-set-f-q-requires
-set-f-q-requires c κs = search needs
-
 returns : tie.Need-returns
 unfolding tuned round ofBits
 returns c = rw (c .set-f-q .ensures, c .before .clamp .ensures, c .before .before .tuned-modes .ensures)
 
 pub tuned-spec : {M : Type 1} → statement M
-tuned-spec = tie.close (tie.spec tuned-modes-requires clamp-requires set-f-q-requires returns)
+tuned-spec = tie.close (tie.spec (λ c κs. search needs) (λ c κs. search needs) (λ c κs. search needs) returns)

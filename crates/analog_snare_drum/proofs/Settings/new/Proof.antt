@@ -6,24 +6,6 @@ use Rattle.analog_snare_drum.specs.AnalogSnareDrum.{settings}
 use Rattle.analog_snare_drum.proofs.Settings.new.Statement.{statement}
 use Rattle.analog_snare_drum.proofs.Settings.new.Tie as tie
 
-semitones-to-ratio-requires : tie.Need-semitones-to-ratio-requires
-semitones-to-ratio-requires c κs = search needs
-
-unwrap-or-requires : tie.Need-unwrap-or-requires
-unwrap-or-requires c κs = search needs
-
-semitones-to-ratio-requires-2 : tie.Need-semitones-to-ratio-requires-2
-semitones-to-ratio-requires-2 c κs = search needs
-
-unwrap-or-requires-2 : tie.Need-unwrap-or-requires-2
-unwrap-or-requires-2 c κs = search needs
-
-gains-requires : tie.Need-gains-requires
-gains-requires c κs = search needs
-
-clamp-requires : tie.Need-clamp-requires
-clamp-requires c κs = search needs
-
 returns : tie.Need-returns
 unfolding settings round ofBits
 returns c =
@@ -47,11 +29,5 @@ returns c =
 pub new-spec : {M : Type 1} → statement M
 new-spec =
     tie.close
-    (tie.spec
-    semitones-to-ratio-requires
-    unwrap-or-requires
-    semitones-to-ratio-requires-2
-    unwrap-or-requires-2
-    gains-requires
-    clamp-requires
-    returns)
+    (tie.spec (λ c κs. search needs) (λ c κs. search needs) (λ c κs. search needs) (λ c κs. search needs) (λ c κs. search needs)
+    (λ c κs. search needs) returns)

@@ -5,18 +5,6 @@ use Rattle.filter.specs.OnePole.{process, output}
 use Rattle.filter.proofs.OnePole.process.Statement.{statement}
 use Rattle.filter.proofs.OnePole.process.Tie as tie
 
-enum-told : tie.Need-enum-told
-enum-told c = search needs
-
-enum-told-2 : tie.Need-enum-told-2
-enum-told-2 c = search needs
-
-enum-told-3 : tie.Need-enum-told-3
-enum-told-3 c = search needs
-
-enum-told-4 : tie.Need-enum-told-4
-enum-told-4 c = search needs
-
 returns : tie.Need-returns
 unfolding process output round ofBits
 returns c = rw (c .enum-told .given .1)
@@ -36,4 +24,4 @@ returns-4 c = rw (c .enum-told4 .given .1)
 pub process-spec : {M : Type 1} → statement M
 process-spec =
     tie.close
-    (tie.spec enum-told enum-told-2 enum-told-3 enum-told-4 returns returns-2 returns-3 returns-4)
+    (tie.spec (λ c. search needs) (λ c. search needs) (λ c. search needs) (λ c. search needs) returns returns-2 returns-3 returns-4)

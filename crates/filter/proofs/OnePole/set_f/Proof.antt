@@ -5,12 +5,9 @@ use Rattle.filter.specs.OnePole.{setF}
 use Rattle.filter.proofs.OnePole.set_f.Statement.{statement}
 use Rattle.filter.proofs.OnePole.set_f.Tie as tie
 
-tan-requires : tie.Need-tan-requires
-tan-requires c κs = search needs
-
 returns : tie.Need-returns
 unfolding setF round ofBits
 returns c = rw (c .tan .ensures)
 
 pub set-f-spec : {M : Type 1} → statement M
-set-f-spec = tie.close (tie.spec tan-requires returns)
+set-f-spec = tie.close (tie.spec (λ c κs. search needs) returns)

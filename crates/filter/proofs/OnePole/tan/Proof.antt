@@ -5,15 +5,6 @@ use Rattle.filter.specs.OnePole.{tan}
 use Rattle.filter.proofs.OnePole.tan.Statement.{statement}
 use Rattle.filter.proofs.OnePole.tan.Tie as tie
 
-enum-told : tie.Need-enum-told
-enum-told c = search needs
-
-enum-told-2 : tie.Need-enum-told-2
-enum-told-2 c = search needs
-
-enum-told-3 : tie.Need-enum-told-3
-enum-told-3 c = search needs
-
 returns : tie.Need-returns
 unfolding tan round ofBits mul
 returns c = rw (c .enum-told .given .1)
@@ -27,4 +18,4 @@ unfolding tan round ofBits mul
 returns-3 c = rw (c .enum-told3 .given .1)
 
 pub tan-spec : {M : Type 1} → statement M
-tan-spec = tie.close (tie.spec enum-told enum-told-2 enum-told-3 returns returns-2 returns-3)
+tan-spec = tie.close (tie.spec (λ c. search needs) (λ c. search needs) (λ c. search needs) returns returns-2 returns-3)

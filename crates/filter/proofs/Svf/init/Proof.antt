@@ -5,15 +5,9 @@ use Rattle.filter.specs.Svf.{init}
 use Rattle.filter.proofs.Svf.init.Statement.{statement}
 use Rattle.filter.proofs.Svf.init.Tie as tie
 
-set-f-q-requires : tie.Need-set-f-q-requires
-set-f-q-requires c κs = search needs
-
-reset-requires : tie.Need-reset-requires
-reset-requires c κs = search needs
-
 returns : tie.Need-returns
 unfolding init round ofBits
 returns c = rw (c .reset .ensures, c .before .set-f-q .ensures)
 
 pub init-spec : {M : Type 1} → statement M
-init-spec = tie.close (tie.spec set-f-q-requires reset-requires returns)
+init-spec = tie.close (tie.spec (λ c κs. search needs) (λ c κs. search needs) returns)

@@ -4,15 +4,9 @@ use Rattle.filter.specs.Svf.{process}
 use Rattle.filter.proofs.Svf.process.Statement.{statement}
 use Rattle.filter.proofs.Svf.process.Tie as tie
 
-passed-requires : tie.Need-passed-requires
-passed-requires c κs = search needs
-
-output-requires : tie.Need-output-requires
-output-requires c κs = search needs
-
 returns : tie.Need-returns
 unfolding process
 returns c = rw (c .output .ensures, c .before .before .passed .ensures)
 
 pub process-spec : {M : Type 1} → statement M
-process-spec = tie.close (tie.spec passed-requires output-requires returns)
+process-spec = tie.close (tie.spec (λ c κs. search needs) (λ c κs. search needs) returns)

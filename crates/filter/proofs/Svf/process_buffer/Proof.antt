@@ -14,32 +14,8 @@ Inv-loop in- out₀ mode n filter₀ i₀ out filter i = Filtering mode filter�
 abbrev μ-loop : tie.MeasureT-loop
 μ-loop in- out₀ mode n filter₀ i₀ out filter i = n - i
 
-shorter-requires : tie.Need-shorter-requires Inv-loop μ-loop
-shorter-requires c κs = search needs
-
 loop-holds : tie.Need-loop-holds Inv-loop μ-loop
 loop-holds c = begin-filtering _ _ _ _
-
-mul-process : tie.Need-mul-process Inv-loop μ-loop
-mul-process c = search needs
-
-shared-slice-read-process : tie.Need-shared-slice-read-process Inv-loop μ-loop
-shared-slice-read-process c = search needs
-
-process-requires : tie.Need-process-requires Inv-loop μ-loop
-process-requires c κs = search needs
-
-mul-out : tie.Need-mul-out Inv-loop μ-loop
-mul-out c = search needs
-
-slice-write-out : tie.Need-slice-write-out Inv-loop μ-loop
-slice-write-out c = search needs
-
-add-i : tie.Need-add-i Inv-loop μ-loop
-add-i c = search needs
-
-loop-less : tie.Need-loop-less Inv-loop μ-loop
-loop-less c = search needs
 
 loop-again : tie.Need-loop-again Inv-loop μ-loop
 loop-again c =
@@ -60,18 +36,5 @@ returns c =
 pub process-buffer-spec : {M : Type 1} → statement M
 process-buffer-spec =
     tie.close
-    (tie.spec
-    Inv-loop
-    μ-loop
-    shorter-requires
-    loop-holds
-    mul-process
-    shared-slice-read-process
-    process-requires
-    mul-out
-    slice-write-out
-    add-i
-    loop-less
-    loop-again
-    same-length
-    returns)
+    (tie.spec Inv-loop μ-loop (λ c κs. search needs) loop-holds (λ c. search needs) (λ c. search needs) (λ c κs. search needs) (λ c. search needs)
+    (λ c. search needs) (λ c. search needs) (λ c. search needs) loop-again same-length returns)

@@ -3,14 +3,8 @@ use borrow.Author.Needs.{needs}
 use Rattle.filter.proofs.Svf.set_f_q.Statement.{statement}
 use Rattle.filter.proofs.Svf.set_f_q.Tie as tie
 
-tan-requires : tie.Need-tan-requires
-tan-requires c κs = search needs
-
-set-g-q-requires : tie.Need-set-g-q-requires
-set-g-q-requires c κs = search needs
-
 returns : tie.Need-returns
 returns c = rw (c .set-g-q .ensures, c .before .tan .ensures)
 
 pub set-f-q-spec : {M : Type 1} → statement M
-set-f-q-spec = tie.close (tie.spec tan-requires set-g-q-requires returns)
+set-f-q-spec = tie.close (tie.spec (λ c κs. search needs) (λ c κs. search needs) returns)

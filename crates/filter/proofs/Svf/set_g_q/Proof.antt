@@ -5,12 +5,9 @@ use Rattle.filter.specs.Svf.{setGQ}
 use Rattle.filter.proofs.Svf.set_g_q.Statement.{statement}
 use Rattle.filter.proofs.Svf.set_g_q.Tie as tie
 
-set-g-r-requires : tie.Need-set-g-r-requires
-set-g-r-requires c κs = search needs
-
 returns : tie.Need-returns
 unfolding setGQ round ofBits
 returns c = rw (c .set-g-r .ensures)
 
 pub set-g-q-spec : {M : Type 1} → statement M
-set-g-q-spec = tie.close (tie.spec set-g-r-requires returns)
+set-g-q-spec = tie.close (tie.spec (λ c κs. search needs) returns)

@@ -5,18 +5,9 @@ use Rattle.hihat.specs.Hihat.{initialized}
 use Rattle.hihat.proofs.Hihat.initialized.Statement.{statement}
 use Rattle.hihat.proofs.Hihat.initialized.Tie as tie
 
-init-requires : tie.Need-init-requires
-init-requires c κs = search needs
-
-init-requires-2 : tie.Need-init-requires-2
-init-requires-2 c κs = search needs
-
-init-requires-3 : tie.Need-init-requires-3
-init-requires-3 c κs = search needs
-
 returns : tie.Need-returns
 unfolding initialized round ofBits
 returns c = rw (c .init3 .ensures, c .before .init2 .ensures, c .before .before .init .ensures)
 
 pub initialized-spec : {M : Type 1} → statement M
-initialized-spec = tie.close (tie.spec init-requires init-requires-2 init-requires-3 returns)
+initialized-spec = tie.close (tie.spec (λ c κs. search needs) (λ c κs. search needs) (λ c κs. search needs) returns)

@@ -6,15 +6,6 @@ use Rattle.hihat.proofs.Laws.{accepted}
 use Rattle.hihat.proofs.Hihat.render.Statement.{statement}
 use Rattle.hihat.proofs.Hihat.render.Tie as tie
 
-asked-requires : tie.Need-asked-requires
-asked-requires c κs = search needs
-
-enum-told : tie.Need-enum-told
-enum-told c = search needs
-
-enum-told-2 : tie.Need-enum-told-2
-enum-told-2 c = search needs
-
 block-settings-requires : tie.Need-block-settings-requires
 block-settings-requires c κs = accepted _ _ _ _ _ _ _ (zero-of _ _ (c .before .before .asked .ensures) (c .enum-told2 .given .1)) .1 .decay-in
 
@@ -24,20 +15,11 @@ begun-requires c κs =
     let a = accepted _ _ _ _ _ _ _ (zero-of _ _ (m .before .before .asked .ensures) (m .enum-told2 .given .1)) in
     (a .1 .a-in, a .0)
 
-run-requires : tie.Need-run-requires
-run-requires c κs = search needs
-
-ended-requires : tie.Need-ended-requires
-ended-requires c κs = search needs
-
 returns : tie.Need-returns
 returns c =
     let known = c .before .before .asked .ensures in
     let told = c .enum-told .given .1 in
     (known, (sym (arm-refused _ _ _ _ known _ told), (sym (arm-refused _ _ _ _ known _ told), sym (arm-refused _ _ _ _ known _ told))))
-
-same-length : tie.Need-same-length
-same-length c = search needs
 
 returns-2 : tie.Need-returns-2
 returns-2 c =
@@ -58,14 +40,5 @@ returns-2 c =
 pub render-spec : {M : Type 1} → statement M
 render-spec =
     tie.close
-    (tie.spec
-    asked-requires
-    enum-told
-    enum-told-2
-    block-settings-requires
-    begun-requires
-    run-requires
-    ended-requires
-    returns
-    same-length
-    returns-2)
+    (tie.spec (λ c κs. search needs) (λ c. search needs) (λ c. search needs) block-settings-requires begun-requires (λ c κs. search needs)
+    (λ c κs. search needs) returns (λ c. search needs) returns-2)

@@ -7,24 +7,6 @@ use Rattle.hihat.specs.Hihat.{tuned}
 use Rattle.hihat.proofs.Hihat.tuned.Statement.{statement}
 use Rattle.hihat.proofs.Hihat.tuned.Tie as tie
 
-semitones-to-ratio-requires : tie.Need-semitones-to-ratio-requires
-semitones-to-ratio-requires c κs = search needs
-
-unwrap-or-requires : tie.Need-unwrap-or-requires
-unwrap-or-requires c κs = search needs
-
-clamp-requires : tie.Need-clamp-requires
-clamp-requires c κs = search needs
-
-coloration-q-requires : tie.Need-coloration-q-requires
-coloration-q-requires c κs = search needs
-
-set-f-q-requires : tie.Need-set-f-q-requires
-set-f-q-requires c κs = search needs
-
-set-f-q-requires-2 : tie.Need-set-f-q-requires-2
-set-f-q-requires-2 c κs = search needs
-
 returns : tie.Need-returns
 unfolding tuned round ofBits
 returns c =
@@ -47,11 +29,5 @@ returns c =
 pub tuned-spec : {M : Type 1} → statement M
 tuned-spec =
     tie.close
-    (tie.spec
-    semitones-to-ratio-requires
-    unwrap-or-requires
-    clamp-requires
-    coloration-q-requires
-    set-f-q-requires
-    set-f-q-requires-2
-    returns)
+    (tie.spec (λ c κs. search needs) (λ c κs. search needs) (λ c κs. search needs) (λ c κs. search needs) (λ c κs. search needs)
+    (λ c κs. search needs) returns)

@@ -5,15 +5,9 @@ use Rattle.hihat.specs.Chain.{swingVca}
 use Rattle.hihat.proofs.chain.swing_vca.Statement.{statement}
 use Rattle.hihat.proofs.chain.swing_vca.Tie as tie
 
-drive-requires : tie.Need-drive-requires
-drive-requires c κs = search needs
-
-abs-requires : tie.Need-abs-requires
-abs-requires c κs = search needs
-
 returns : tie.Need-returns
 unfolding swingVca round ofBits
 returns c = rw (c .abs .ensures, c .before .drive .ensures)
 
 pub swing-vca-spec : {M : Type 1} → statement M
-swing-vca-spec = tie.close (tie.spec drive-requires abs-requires returns)
+swing-vca-spec = tie.close (tie.spec (λ c κs. search needs) (λ c κs. search needs) returns)

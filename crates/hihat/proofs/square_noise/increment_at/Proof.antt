@@ -5,20 +5,13 @@ use Rattle.hihat.specs.SquareNoise.{increment}
 use Rattle.hihat.proofs.square_noise.increment_at.Statement.{statement}
 use Rattle.hihat.proofs.square_noise.increment_at.Tie as tie
 
-truncate-u32-requires : tie.Need-truncate-u32-requires
-truncate-u32-requires c κs = search needs
-
 returns : tie.Need-returns
 unfolding increment round ofBits
 returns c = rw (c .before .if1 .taken) (c .truncate-u32 .ensures)
-
-truncate-u32-requires-2 : tie.Need-truncate-u32-requires-2
-truncate-u32-requires-2 c κs = search needs
 
 returns-2 : tie.Need-returns-2
 unfolding increment round ofBits
 returns-2 c = rw (c .before .if1 .left) (c .truncate-u322 .ensures)
 
 pub increment-at-spec : {M : Type 1} → statement M
-increment-at-spec =
-    tie.close (tie.spec truncate-u32-requires returns truncate-u32-requires-2 returns-2)
+increment-at-spec = tie.close (tie.spec (λ c κs. search needs) returns (λ c κs. search needs) returns-2)

@@ -6,42 +6,6 @@ use Rattle.hihat.specs.SquareNoise.{increments, ratios}
 use Rattle.hihat.proofs.square_noise.increments.Statement.{statement}
 use Rattle.hihat.proofs.square_noise.increments.Tie as tie
 
-array-read-increment-at : tie.Need-array-read-increment-at
-array-read-increment-at c = search needs
-
-increment-at-requires : tie.Need-increment-at-requires
-increment-at-requires c κs = search needs
-
-array-read-increment-at-2 : tie.Need-array-read-increment-at-2
-array-read-increment-at-2 c = search needs
-
-increment-at-requires-2 : tie.Need-increment-at-requires-2
-increment-at-requires-2 c κs = search needs
-
-array-read-increment-at-3 : tie.Need-array-read-increment-at-3
-array-read-increment-at-3 c = search needs
-
-increment-at-requires-3 : tie.Need-increment-at-requires-3
-increment-at-requires-3 c κs = search needs
-
-array-read-increment-at-4 : tie.Need-array-read-increment-at-4
-array-read-increment-at-4 c = search needs
-
-increment-at-requires-4 : tie.Need-increment-at-requires-4
-increment-at-requires-4 c κs = search needs
-
-array-read-increment-at-5 : tie.Need-array-read-increment-at-5
-array-read-increment-at-5 c = search needs
-
-increment-at-requires-5 : tie.Need-increment-at-requires-5
-increment-at-requires-5 c κs = search needs
-
-array-read-increment-at-6 : tie.Need-array-read-increment-at-6
-array-read-increment-at-6 c = search needs
-
-increment-at-requires-6 : tie.Need-increment-at-requires-6
-increment-at-requires-6 c κs = search needs
-
 returns : tie.Need-returns
 unfolding increments ratios round ofBits
 returns c =
@@ -54,17 +18,5 @@ returns c =
 pub increments-spec : {M : Type 1} → statement M
 increments-spec =
     tie.close
-    (tie.spec
-    array-read-increment-at
-    increment-at-requires
-    array-read-increment-at-2
-    increment-at-requires-2
-    array-read-increment-at-3
-    increment-at-requires-3
-    array-read-increment-at-4
-    increment-at-requires-4
-    array-read-increment-at-5
-    increment-at-requires-5
-    array-read-increment-at-6
-    increment-at-requires-6
-    returns)
+    (tie.spec (λ c. search needs) (λ c κs. search needs) (λ c. search needs) (λ c κs. search needs) (λ c. search needs) (λ c κs. search needs)
+    (λ c. search needs) (λ c κs. search needs) (λ c. search needs) (λ c κs. search needs) (λ c. search needs) (λ c κs. search needs) returns)

@@ -8,9 +8,6 @@ use Rattle.hihat.specs.SquareNoise.{level}
 use Rattle.hihat.proofs.square_noise.level.Statement.{statement}
 use Rattle.hihat.proofs.square_noise.level.Tie as tie
 
-count-high-requires : tie.Need-count-high-requires
-count-high-requires c κs = search needs
-
 int-to-float-result : tie.Need-int-to-float-result
 unfolding inFloat
 int-to-float-result c = le→leb (c .before .count-high .result) (2 ^ 24) (omega arith)
@@ -20,4 +17,4 @@ unfolding level round ofBits
 returns c = rw (c .before .count-high .ensures .0)
 
 pub level-spec : {M : Type 1} → statement M
-level-spec = tie.close (tie.spec count-high-requires int-to-float-result returns)
+level-spec = tie.close (tie.spec (λ c κs. search needs) int-to-float-result returns)

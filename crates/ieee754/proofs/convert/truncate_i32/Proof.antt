@@ -34,30 +34,18 @@ negated-fits n h = rw (negated n h) (go n h)
     go zero h = record { sfits = h }
     go (suc n) h = record { sfits = omega arith }
 
-truncate-u64-requires : tie.Need-truncate-u64-requires
-truncate-u64-requires c κs = search needs
-
 returns : tie.Need-returns
 returns c =
     let held : min (c .before .truncate-u64 .result) (2 ^ 31) ≡ 2 ^ 31 = omega (arith, c .if2 .taken) in
     sym (minus (c .before) ∙ rw held)
 
-cast-result : tie.Need-cast-result
-cast-result c = search needs
-
 sub-result : tie.Need-sub-result
 sub-result c = negated-fits (c .before .truncate-u64 .result) (c .if2 .left)
-
-truncate-u64-requires-2 : tie.Need-truncate-u64-requires-2
-truncate-u64-requires-2 c κs = search needs
 
 returns-2 : tie.Need-returns-2
 returns-2 c =
     let held : min (c .before .truncate-u642 .result) (2 ^ 31 - 1) ≡ 2 ^ 31 - 1 = omega (arith, c .if3 .taken) in
     sym (plus (c .before) ∙ rw held)
-
-cast-result-2 : tie.Need-cast-result-2
-cast-result-2 c = search needs
 
 returns-3 : tie.Need-returns-3
 returns-3 c =
@@ -74,4 +62,4 @@ returns-4 c =
 pub truncate-i32-spec : {M : Type 1} → statement M
 truncate-i32-spec =
     tie.close
-    (tie.spec truncate-u64-requires returns cast-result sub-result truncate-u64-requires-2 returns-2 cast-result-2 returns-3 returns-4)
+    (tie.spec (λ c κs. search needs) returns (λ c. search needs) sub-result (λ c κs. search needs) returns-2 (λ c. search needs) returns-3 returns-4)

@@ -6,12 +6,6 @@ use Rattle.ieee754.proofs.Whole.{narrowed}
 use Rattle.ieee754.proofs.convert.truncate_u32.Statement.{statement}
 use Rattle.ieee754.proofs.convert.truncate_u32.Tie as tie
 
-truncate-u64-requires : tie.Need-truncate-u64-requires
-truncate-u64-requires c κs = search needs
-
-cast-result : tie.Need-cast-result
-cast-result c = search needs
-
 returns : tie.Need-returns
 returns c = omega (arith, c .before .truncate-u64 .ensures, narrowed 32 64 (c .before .before .args .x) (lit≤ tt))
 
@@ -19,4 +13,4 @@ returns-2 : tie.Need-returns-2
 returns-2 c = omega (arith, c .before .truncate-u64 .ensures, narrowed 32 64 (c .before .before .args .x) (lit≤ tt))
 
 pub truncate-u32-spec : {M : Type 1} → statement M
-truncate-u32-spec = tie.close (tie.spec truncate-u64-requires cast-result returns returns-2)
+truncate-u32-spec = tie.close (tie.spec (λ c κs. search needs) (λ c. search needs) returns returns-2)

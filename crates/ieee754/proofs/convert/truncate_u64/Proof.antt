@@ -41,18 +41,6 @@ returns-4 c =
     let s = c .before .before .before .before in
     past-width binary32 (s .args .x) (held s) (c .before .before .if2 .left) 64 (number (c .before .before .before)) (c .if4 .taken)
 
-significand-requires : tie.Need-significand-requires
-significand-requires c κs = search needs
-
-cast-digits : tie.Need-cast-digits
-cast-digits c = search needs
-
-cast-result : tie.Need-cast-result
-cast-result c = search needs
-
-shr-result : tie.Need-shr-result
-shr-result c = search needs
-
 returns-5 : tie.Need-returns-5
 returns-5 c =
     let s = c .before .before .before .before .before in
@@ -64,4 +52,5 @@ returns-5 c =
 pub truncate-u64-spec : {M : Type 1} → statement M
 truncate-u64-spec =
     tie.close
-    (tie.spec returns float-to-bits-bits returns-2 returns-3 returns-4 significand-requires cast-digits cast-result shr-result returns-5)
+    (tie.spec returns float-to-bits-bits returns-2 returns-3 returns-4 (λ c κs. search needs) (λ c. search needs) (λ c. search needs)
+    (λ c. search needs) returns-5)

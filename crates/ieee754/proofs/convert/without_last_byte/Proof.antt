@@ -11,9 +11,6 @@ use Rattle.ieee754.proofs.convert.without_last_byte.Tie as tie
 add-if1 : tie.Need-add-if1
 add-if1 c = let n = c .args .n in omega (arith, and-mask n 8, and-mask (n / 256) 1)
 
-add-result : tie.Need-add-result
-add-result c = search needs
-
 returns : tie.Need-returns
 returns c = let n = c .before .args .n in sym (closest-up n 256 (omega (arith, and-mask n 8, and-mask (n / 256) 1)))
 
@@ -21,4 +18,4 @@ returns-2 : tie.Need-returns-2
 returns-2 c = let n = c .before .args .n in sym (closest-down n 256 (omega (arith, and-mask n 8, and-mask (n / 256) 1)))
 
 pub without-last-byte-spec : {M : Type 1} → statement M
-without-last-byte-spec = tie.close (tie.spec add-if1 add-result returns returns-2)
+without-last-byte-spec = tie.close (tie.spec add-if1 (λ c. search needs) returns returns-2)

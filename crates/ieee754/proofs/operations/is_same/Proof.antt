@@ -7,12 +7,6 @@ use Rattle.ieee754.proofs.Fields.{one-value}
 use Rattle.ieee754.proofs.operations.is_same.Statement.{statement}
 use Rattle.ieee754.proofs.operations.is_same.Tie as tie
 
-to-bits-requires : tie.Need-to-bits-requires
-to-bits-requires c κs = search needs
-
-to-bits-requires-2 : tie.Need-to-bits-requires-2
-to-bits-requires-2 c κs = search needs
-
 returns : tie.Need-returns
 returns c =
     let s = c .before .before in
@@ -20,4 +14,4 @@ returns c =
     (λ h. one-value binary32 (s .args .x) (s .args .y) (rw (s .good .0 .1) tt) (rw (s .good .1 .0 .1) tt) (eqb-true _ _ h), λ h. eq-eqb _ _ (ap (toBits binary32) h))
 
 pub is-same-spec : {M : Type 1} → statement M
-is-same-spec = tie.close (tie.spec to-bits-requires to-bits-requires-2 returns)
+is-same-spec = tie.close (tie.spec (λ c κs. search needs) (λ c κs. search needs) returns)

@@ -10,9 +10,6 @@ returns c = simp (maximum-by, c .if1 .taken)
 returns-2 : tie.Need-returns-2
 returns-2 c = simp (maximum-by, c .before .if1 .left, c .if2 .taken)
 
-precedes-requires : tie.Need-precedes-requires
-precedes-requires c κs = search needs
-
 returns-3 : tie.Need-returns-3
 returns-3 c = simp (maximum-by, c .before .before .before .if1 .left, c .before .before .if2 .left, ← c .before .precedes .ensures, c .if3 .taken)
 
@@ -20,4 +17,4 @@ returns-4 : tie.Need-returns-4
 returns-4 c = simp (maximum-by, c .before .before .before .if1 .left, c .before .before .if2 .left, ← c .before .precedes .ensures, c .if3 .left)
 
 pub maximum-number-spec : {M : Type 1} → statement M
-maximum-number-spec = tie.close (tie.spec returns returns-2 precedes-requires returns-3 returns-4)
+maximum-number-spec = tie.close (tie.spec returns returns-2 (λ c κs. search needs) returns-3 returns-4)

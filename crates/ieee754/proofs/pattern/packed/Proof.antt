@@ -15,9 +15,6 @@ use Rattle.ieee754.proofs.pattern.packed.Tie as tie
 unshifted : (c : tie.Start) → let k = c .args .place in k * 2 ^ 23 % 2 ^ 32 ≡ k * 2 ^ 23
 unshifted c = omega arith
 
-add-result : tie.Need-add-result
-add-result c = search needs
-
 float-from-bits-result : tie.Need-float-from-bits-result
 float-from-bits-result c = rw (unshifted c) (no-nan-bits binary32 (c .args .place * 2 ^ 23 + c .args .digits) (omega arith))
 
@@ -29,4 +26,4 @@ returns c =
     rw (unshifted c) (packed-is binary32 q k (c .pre .1) (c .pre .2) small)
 
 pub packed-spec : {M : Type 1} → statement M
-packed-spec = tie.close (tie.spec add-result float-from-bits-result returns)
+packed-spec = tie.close (tie.spec (λ c. search needs) float-from-bits-result returns)

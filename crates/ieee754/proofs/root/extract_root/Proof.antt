@@ -27,12 +27,6 @@ guess-quotient n h = div-lt-iff-lt-mul {k = guess n} (omega arith) .1 (omega ari
 better-quotient : (n : ℕ) → n < 2 ^ 48 → n / better n < 2 ^ 27
 better-quotient n h = div-lt-iff-lt-mul {k = better n} (omega arith) .1 (omega arith)
 
-add-guess : tie.Need-add-guess Inv-loop μ-loop
-add-guess c = search needs
-
-div-better : tie.Need-div-better Inv-loop μ-loop
-div-better c = search needs
-
 add-better : tie.Need-add-better Inv-loop μ-loop
 add-better c = omega (arith, guess-quotient (c .args .n) (c .pre))
 
@@ -68,13 +62,11 @@ loop-again c =
 mul-t5 : tie.Need-mul-t5 Inv-loop μ-loop
 mul-t5 c = let h = c .before .loop .inv .0 in omega (arith, mul-le-mul h h)
 
-sub-t6 : tie.Need-sub-t6 Inv-loop μ-loop
-sub-t6 c = search needs
-
 returns : tie.Need-returns Inv-loop μ-loop
 returns c = omega arith
 
 pub extract-root-spec : {M : Type 1} → statement M
 extract-root-spec =
     tie.close
-    (tie.spec Inv-loop μ-loop add-guess div-better add-better div-root add-root loop-holds mul-loop sub-root loop-less loop-again mul-t5 sub-t6 returns)
+    (tie.spec Inv-loop μ-loop (λ c. search needs) (λ c. search needs) add-better div-root add-root loop-holds mul-loop sub-root loop-less loop-again
+    mul-t5 (λ c. search needs) returns)

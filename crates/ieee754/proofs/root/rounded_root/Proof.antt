@@ -60,15 +60,6 @@ module _ (c : tie.After-extract-root) where
   squared : (a : ℕ) → a * 2 ^ 126 ≡ c .before .args .digits * 2 ^ w (c .before) → a * 2 ^ 149 ≡ (root * root + rest) * (2 ^ (w (c .before) / 2) * 2 ^ (w (c .before) / 2))
   squared a h = rw is (scaled (c .before) a h)
 
-add-extract-root : tie.Need-add-extract-root
-add-extract-root c = search needs
-
-cast-extract-root : tie.Need-cast-extract-root
-cast-extract-root c = search needs
-
-shl-extract-root : tie.Need-shl-extract-root
-shl-extract-root c = search needs
-
 extract-root-requires : tie.Need-extract-root-requires
 extract-root-requires c κs = rw (whole c) (rad-lt c)
 
@@ -102,5 +93,5 @@ returns-2 c a h =
 pub rounded-root-spec : {M : Type 1} → statement M
 rounded-root-spec =
     tie.close
-    (tie.spec add-extract-root cast-extract-root shl-extract-root extract-root-requires cast-packed packed-requires add-packed cast-packed-2
+    (tie.spec (λ c. search needs) (λ c. search needs) (λ c. search needs) extract-root-requires cast-packed packed-requires add-packed cast-packed-2
     packed-requires-2 returns returns-2)

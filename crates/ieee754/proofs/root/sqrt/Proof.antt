@@ -114,12 +114,6 @@ returns-5 c = c .rounded-root .ensures (b (c .before)) (rw (whole (c .before)) (
 
 -- ---- a normal x
 
-add-rounded-root : tie.Need-add-rounded-root
-add-rounded-root c = search needs
-
-significand-requires : tie.Need-significand-requires
-significand-requires c κs = search needs
-
 rounded-root-requires-2 : tie.Need-rounded-root-requires-2
 rounded-root-requires-2 c κs = omega (arith, c .significand .ensures, c .before .before .if4 .left)
 
@@ -139,4 +133,4 @@ pub sqrt-spec : {M : Type 1} → statement M
 sqrt-spec =
     tie.close
     (tie.spec returns returns-2 float-to-bits-bits returns-3 returns-4 sub-rounded-root sub-rounded-root-2 shl-rounded-root rounded-root-requires
-    returns-5 add-rounded-root significand-requires rounded-root-requires-2 returns-6)
+    returns-5 (λ c. search needs) (λ c κs. search needs) rounded-root-requires-2 returns-6)

@@ -6,15 +6,6 @@ use borrow.Author.Needs.{needs}
 use Rattle.kit.proofs.Kit.play.Statement.{statement}
 use Rattle.kit.proofs.Kit.play.Tie as tie
 
-clear-requires : tie.Need-clear-requires
-clear-requires c κs = search needs
-
-play-requires : tie.Need-play-requires
-play-requires c κs = search needs
-
-play-requires-2 : tie.Need-play-requires-2
-play-requires-2 c κs = search needs
-
 play-requires-3 : tie.Need-play-requires-3
 play-requires-3 c κs =
     let s = c .before .before .before .before .before .before in
@@ -32,9 +23,6 @@ play-requires-4 c κs =
     let start = z .before .before .before .before in
     y .play3 .kept .1 .1 .1 .0 ∙ s .play2 .kept .1 .1 .1 .0 ∙ b .play .kept .1 .1 .0 ∙ start .pre
     ∙ sym (y .play3 .kept .1 .1 .0 ∙ s .play2 .kept .1 .1 .0 ∙ b .play .kept .1 .0 ∙ z .clear .kept .0)
-
-clear-requires-2 : tie.Need-clear-requires-2
-clear-requires-2 c κs = search needs
 
 same-length : tie.Need-same-length
 same-length c =
@@ -72,13 +60,5 @@ returns c =
 pub play-spec : {M : Type 1} → statement M
 play-spec =
     tie.close
-    (tie.spec
-    clear-requires
-    play-requires
-    play-requires-2
-    play-requires-3
-    play-requires-4
-    clear-requires-2
-    same-length
-    same-length-2
-    returns)
+    (tie.spec (λ c κs. search needs) (λ c κs. search needs) (λ c κs. search needs) play-requires-3 play-requires-4 (λ c κs. search needs) same-length
+    same-length-2 returns)

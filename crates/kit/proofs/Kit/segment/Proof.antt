@@ -6,19 +6,10 @@ use borrow.Author.Needs.{needs}
 use Rattle.kit.proofs.Kit.segment.Statement.{statement}
 use Rattle.kit.proofs.Kit.segment.Tie as tie
 
-shorter-requires : tie.Need-shorter-requires
-shorter-requires c κs = search needs
-
-slice-relend-prefix-play : tie.Need-slice-relend-prefix-play
-slice-relend-prefix-play c = search needs
-
 slice-aggregate-play : tie.Need-slice-aggregate-play
 slice-aggregate-play c =
     let s = c .before .before .before .before in
     sym (out-front (now (s .args .out)) (now (s .args .scratch)) _ (c .before .shorter .ensures))
-
-slice-relend-prefix-play-2 : tie.Need-slice-relend-prefix-play-2
-slice-relend-prefix-play-2 c = search needs
 
 slice-aggregate-play-2 : tie.Need-slice-aggregate-play-2
 slice-aggregate-play-2 c =
@@ -30,12 +21,6 @@ play-requires c κs =
     let s = c .before .before .before .before .before in
     let n-is = c .before .before .shorter .ensures in
     scratch-front (now (s .args .out)) (now (s .args .scratch)) _ n-is ∙ sym (out-front (now (s .args .out)) (now (s .args .scratch)) _ n-is)
-
-same-length : tie.Need-same-length
-same-length c = search needs
-
-same-length-2 : tie.Need-same-length-2
-same-length-2 c = search needs
 
 returns : tie.Need-returns
 returns c =
@@ -51,13 +36,5 @@ returns c =
 pub segment-spec : {M : Type 1} → statement M
 segment-spec =
     tie.close
-    (tie.spec
-    shorter-requires
-    slice-relend-prefix-play
-    slice-aggregate-play
-    slice-relend-prefix-play-2
-    slice-aggregate-play-2
-    play-requires
-    same-length
-    same-length-2
-    returns)
+    (tie.spec (λ c κs. search needs) (λ c. search needs) slice-aggregate-play (λ c. search needs) slice-aggregate-play-2 play-requires
+    (λ c. search needs) (λ c. search needs) returns)

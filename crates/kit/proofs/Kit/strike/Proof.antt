@@ -4,24 +4,6 @@ use Rattle.kit.specs.Kit.{strike}
 use Rattle.kit.proofs.Kit.strike.Statement.{statement}
 use Rattle.kit.proofs.Kit.strike.Tie as tie
 
-of-requires : tie.Need-of-requires
-of-requires c κs = search needs
-
-strike-requires : tie.Need-strike-requires
-strike-requires c κs = search needs
-
-enum-told : tie.Need-enum-told
-enum-told c = search needs
-
-enum-told-2 : tie.Need-enum-told-2
-enum-told-2 c = search needs
-
-enum-told-3 : tie.Need-enum-told-3
-enum-told-3 c = search needs
-
-enum-told-4 : tie.Need-enum-told-4
-enum-told-4 c = search needs
-
 returns : tie.Need-returns
 unfolding strike
 returns c = rw (c .before .before .before .strike .ensures, c .before .before .before .before .of .ensures, c .before .enum-told .given .1)
@@ -41,14 +23,5 @@ returns-4 c = rw (c .before .before .before .strike .ensures, c .before .before 
 pub strike-spec : {M : Type 1} → statement M
 strike-spec =
     tie.close
-    (tie.spec
-    of-requires
-    strike-requires
-    enum-told
-    enum-told-2
-    enum-told-3
-    enum-told-4
-    returns
-    returns-2
-    returns-3
-    returns-4)
+    (tie.spec (λ c κs. search needs) (λ c κs. search needs) (λ c. search needs) (λ c. search needs) (λ c. search needs) (λ c. search needs) returns
+    returns-2 returns-3 returns-4)

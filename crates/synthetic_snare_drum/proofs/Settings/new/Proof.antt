@@ -6,27 +6,6 @@ use Rattle.synthetic_snare_drum.specs.SyntheticSnareDrum.{settings}
 use Rattle.synthetic_snare_drum.proofs.Settings.new.Statement.{statement}
 use Rattle.synthetic_snare_drum.proofs.Settings.new.Tie as tie
 
-semitones-to-ratio-requires : tie.Need-semitones-to-ratio-requires
-semitones-to-ratio-requires c κs = search needs
-
-unwrap-or-requires : tie.Need-unwrap-or-requires
-unwrap-or-requires c κs = search needs
-
-semitones-to-ratio-requires-2 : tie.Need-semitones-to-ratio-requires-2
-semitones-to-ratio-requires-2 c κs = search needs
-
-unwrap-or-requires-2 : tie.Need-unwrap-or-requires-2
-unwrap-or-requires-2 c κs = search needs
-
-clamp-requires : tie.Need-clamp-requires
-clamp-requires c κs = search needs
-
-sqrt-requires : tie.Need-sqrt-requires
-sqrt-requires c κs = search needs
-
-sqrt-requires-2 : tie.Need-sqrt-requires-2
-sqrt-requires-2 c κs = search needs
-
 returns : tie.Need-returns
 unfolding settings round ofBits
 returns c =
@@ -49,12 +28,5 @@ returns c =
 pub new-spec : {M : Type 1} → statement M
 new-spec =
     tie.close
-    (tie.spec
-    semitones-to-ratio-requires
-    unwrap-or-requires
-    semitones-to-ratio-requires-2
-    unwrap-or-requires-2
-    clamp-requires
-    sqrt-requires
-    sqrt-requires-2
-    returns)
+    (tie.spec (λ c κs. search needs) (λ c κs. search needs) (λ c κs. search needs) (λ c κs. search needs) (λ c κs. search needs)
+    (λ c κs. search needs) (λ c κs. search needs) returns)

@@ -6,9 +6,6 @@ use Rattle.synthetic_snare_drum.specs.SyntheticSnareDrum.{envelopes}
 use Rattle.synthetic_snare_drum.proofs.Sounding.envelopes.Statement.{statement}
 use Rattle.synthetic_snare_drum.proofs.Sounding.envelopes.Tie as tie
 
-next-requires : tie.Need-next-requires
-next-requires c κs = search needs
-
 returns : tie.Need-returns
 unfolding envelopes round ofBits
 returns c = rw (c .next .ensures, c .before .if1 .taken)
@@ -19,9 +16,6 @@ returns-2 c =
     let s = c .before .before in
     rw (s .before .before .before .before .before .before .before .if1 .left, eq-eqb _ _ (s .if2 .taken))
 
-sub-t10 : tie.Need-sub-t10
-sub-t10 c = search needs
-
 returns-3 : tie.Need-returns-3
 unfolding envelopes round ofBits
 returns-3 c =
@@ -29,4 +23,4 @@ returns-3 c =
     rw (s .before .before .before .before .before .before .before .if1 .left, ne-eqb _ _ (s .if2 .left))
 
 pub envelopes-spec : {M : Type 1} → statement M
-envelopes-spec = tie.close (tie.spec next-requires returns returns-2 sub-t10 returns-3)
+envelopes-spec = tie.close (tie.spec (λ c κs. search needs) returns returns-2 (λ c. search needs) returns-3)

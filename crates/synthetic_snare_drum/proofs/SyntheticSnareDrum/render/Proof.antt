@@ -6,35 +6,17 @@ use Rattle.synthetic_snare_drum.proofs.Laws.{bounds-in}
 use Rattle.synthetic_snare_drum.proofs.SyntheticSnareDrum.render.Statement.{statement}
 use Rattle.synthetic_snare_drum.proofs.SyntheticSnareDrum.render.Tie as tie
 
-asked-requires : tie.Need-asked-requires
-asked-requires c κs = search needs
-
-enum-told : tie.Need-enum-told
-enum-told c = search needs
-
-enum-told-2 : tie.Need-enum-told-2
-enum-told-2 c = search needs
-
 new-requires : tie.Need-new-requires
 new-requires c κs = bounds-in _ _ _ _ _ _ _ (zero-of _ _ (c .before .before .asked .ensures) (c .enum-told2 .given .1)) .1
 
 begun-requires : tie.Need-begun-requires
 begun-requires c κs = let m = c .before in bounds-in _ _ _ _ _ _ _ (zero-of _ _ (m .before .before .asked .ensures) (m .enum-told2 .given .1)) .0
 
-run-requires : tie.Need-run-requires
-run-requires c κs = search needs
-
-ended-requires : tie.Need-ended-requires
-ended-requires c κs = search needs
-
 returns : tie.Need-returns
 returns c =
     let known = c .before .before .asked .ensures in
     let told = c .enum-told .given .1 in
     (known, (sym (arm-refused _ _ _ _ known _ told), (sym (arm-refused _ _ _ _ known _ told), sym (arm-refused _ _ _ _ known _ told))))
-
-same-length : tie.Need-same-length
-same-length c = search needs
 
 returns-2 : tie.Need-returns-2
 returns-2 c =
@@ -48,14 +30,5 @@ returns-2 c =
 pub render-spec : {M : Type 1} → statement M
 render-spec =
     tie.close
-    (tie.spec
-    asked-requires
-    enum-told
-    enum-told-2
-    new-requires
-    begun-requires
-    run-requires
-    ended-requires
-    returns
-    same-length
-    returns-2)
+    (tie.spec (λ c κs. search needs) (λ c. search needs) (λ c. search needs) new-requires begun-requires (λ c κs. search needs) (λ c κs. search needs)
+    returns (λ c. search needs) returns-2)

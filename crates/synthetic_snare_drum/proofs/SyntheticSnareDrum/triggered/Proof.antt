@@ -10,9 +10,6 @@ returns : tie.Need-returns
 unfolding triggered round ofBits
 returns c = rw (not-true (c .before .args .trigger) (c .if1 .taken))
 
-truncate-u32-requires : tie.Need-truncate-u32-requires
-truncate-u32-requires c κs = search needs
-
 returns-2 : tie.Need-returns-2
 unfolding triggered round ofBits
 returns-2 c =
@@ -20,4 +17,4 @@ returns-2 c =
     rw (not-false (s .before .args .trigger) (s .if1 .left), c .truncate-u32 .ensures)
 
 pub triggered-spec : {M : Type 1} → statement M
-triggered-spec = tie.close (tie.spec returns truncate-u32-requires returns-2)
+triggered-spec = tie.close (tie.spec returns (λ c κs. search needs) returns-2)

@@ -15,9 +15,6 @@ returns c =
     let text = c .before .args .text .now in
     sym (take-all (length text - 1) text (omega arith))
 
-sub-result : tie.Need-sub-result
-sub-result c = search needs
-
 slice-aggregate-result : tie.Need-slice-aggregate-result
 slice-aggregate-result c = sym (length-take-le _ _ (omega arith))
 
@@ -26,4 +23,4 @@ unfolding body
 returns-2 c = refl
 
 pub body-spec : {M : Type 1} → statement M
-body-spec = tie.close (tie.spec returns sub-result slice-aggregate-result returns-2)
+body-spec = tie.close (tie.spec returns (λ c. search needs) slice-aggregate-result returns-2)

@@ -4,12 +4,6 @@ use borrow.Author.Needs.{needs}
 use Rattle.text.proofs.read.decimal.Statement.{statement}
 use Rattle.text.proofs.read.decimal.Tie as tie
 
-well-formed-requires : tie.Need-well-formed-requires
-well-formed-requires c κs = search needs
-
-numeral-requires : tie.Need-numeral-requires
-numeral-requires c κs = search needs
-
 returns : tie.Need-returns
 unfolding decimal
 returns c = rw (← c .before .before .well-formed .ensures, c .before .if1 .taken) (c .numeral .ensures)
@@ -19,4 +13,4 @@ unfolding decimal
 returns-2 c = rw (← c .before .well-formed .ensures, c .if1 .left)
 
 pub decimal-spec : {M : Type 1} → statement M
-decimal-spec = tie.close (tie.spec well-formed-requires numeral-requires returns returns-2)
+decimal-spec = tie.close (tie.spec (λ c κs. search needs) (λ c κs. search needs) returns returns-2)

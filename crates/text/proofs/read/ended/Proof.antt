@@ -12,15 +12,9 @@ returns : tie.Need-returns
 unfolding ended
 returns c = rw (List·getD-eq-default (c .before .args .text .now) 0 {n = length (c .before .args .text .now) - 1} (omega arith))
 
-sub-result : tie.Need-sub-result
-sub-result c = search needs
-
-shared-slice-read-result : tie.Need-shared-slice-read-result
-shared-slice-read-result c = search needs
-
 returns-2 : tie.Need-returns-2
 unfolding ended
 returns-2 c = refl
 
 pub ended-spec : {M : Type 1} → statement M
-ended-spec = tie.close (tie.spec returns sub-result shared-slice-read-result returns-2)
+ended-spec = tie.close (tie.spec returns (λ c. search needs) (λ c. search needs) returns-2)

@@ -15,35 +15,14 @@ abbrev μ-loop : tie.MeasureT-loop
 loop-holds : tie.Need-loop-holds Inv-loop μ-loop
 loop-holds c = seek-begin _ _
 
-find-requires : tie.Need-find-requires Inv-loop μ-loop
-find-requires c κs = search needs
-
-slice-aggregate-result : tie.Need-slice-aggregate-result Inv-loop μ-loop
-slice-aggregate-result c = search needs
-
 returns : tie.Need-returns Inv-loop μ-loop
 returns c = seek-none (c .before .before .before .before .loop .inv) (c .before .before .find .ensures) (c .before .before .before .loop-test .taken) (c .before .if1 .taken)
 
 add-at : tie.Need-add-at Inv-loop μ-loop
 add-at c = omega (arith, seek-inside (c .before .before .before .loop .inv) (c .before .find .ensures))
 
-add-j : tie.Need-add-j Inv-loop μ-loop
-add-j c = search needs
-
-loop-less : tie.Need-loop-less Inv-loop μ-loop
-loop-less c = search needs
-
 loop-again : tie.Need-loop-again Inv-loop μ-loop
 loop-again c = seek-turn (c .before .before .before .loop .inv) (c .before .find .ensures) (c .before .before .loop-test .taken) (c .if1 .left)
-
-find-requires-2 : tie.Need-find-requires-2 Inv-loop μ-loop
-find-requires-2 c κs = search needs
-
-sub-result : tie.Need-sub-result Inv-loop μ-loop
-sub-result c = search needs
-
-part-result-start : tie.Need-part-result-start Inv-loop μ-loop
-part-result-start c = search needs
 
 part-result-end : tie.Need-part-result-end Inv-loop μ-loop
 part-result-end c = omega (arith, seek-inside (c .before .before .loop .inv) (c .find2 .ensures))
@@ -54,19 +33,5 @@ returns-2 c = seek-end (c .before .before .before .loop .inv) (c .before .find2 
 pub field-spec : {M : Type 1} → statement M
 field-spec =
     tie.close
-    (tie.spec
-    Inv-loop
-    μ-loop
-    loop-holds
-    find-requires
-    slice-aggregate-result
-    returns
-    add-at
-    add-j
-    loop-less
-    loop-again
-    find-requires-2
-    sub-result
-    part-result-start
-    part-result-end
-    returns-2)
+    (tie.spec Inv-loop μ-loop loop-holds (λ c κs. search needs) (λ c. search needs) returns add-at (λ c. search needs) (λ c. search needs) loop-again
+    (λ c κs. search needs) (λ c. search needs) (λ c. search needs) part-result-end returns-2)

@@ -13,20 +13,11 @@ Inv-loop line n₀ at₀ n at = Counting line n at
 abbrev μ-loop : tie.MeasureT-loop
 μ-loop line n₀ at₀ n at = length line - at
 
-loop-holds : tie.Need-loop-holds Inv-loop μ-loop
-loop-holds c = search needs
-
-find-requires : tie.Need-find-requires Inv-loop μ-loop
-find-requires c κs = search needs
-
 returns : tie.Need-returns Inv-loop μ-loop
 returns c = count-end (c .before .before .loop .inv) (c .before .find .ensures) (c .if1 .taken)
 
 add-at : tie.Need-add-at Inv-loop μ-loop
 add-at c = omega (arith, count-inside (c .before .before .loop .inv) (c .before .find .ensures))
-
-add-n : tie.Need-add-n Inv-loop μ-loop
-add-n c = search needs
 
 loop-less : tie.Need-loop-less Inv-loop μ-loop
 loop-less c = omega (arith, count-inside (c .before .before .loop .inv) (c .before .find .ensures))
@@ -37,4 +28,4 @@ loop-again c = count-turn (c .before .before .loop .inv) (c .before .find .ensur
 pub field-count-spec : {M : Type 1} → statement M
 field-count-spec =
     tie.close
-    (tie.spec Inv-loop μ-loop loop-holds find-requires returns add-at add-n loop-less loop-again)
+    (tie.spec Inv-loop μ-loop (λ c. search needs) (λ c κs. search needs) returns add-at (λ c. search needs) loop-less loop-again)

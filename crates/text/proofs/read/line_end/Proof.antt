@@ -4,12 +4,6 @@ use borrow.Author.Needs.{needs}
 use Rattle.text.proofs.read.line_end.Statement.{statement}
 use Rattle.text.proofs.read.line_end.Tie as tie
 
-find-requires : tie.Need-find-requires
-find-requires c κs = search needs
-
-add-result : tie.Need-add-result
-add-result c = search needs
-
 returns : tie.Need-returns
 returns c = end-found _ _ _ (c .before .find .ensures) (c .if1 .taken)
 
@@ -17,4 +11,4 @@ returns-2 : tie.Need-returns-2
 returns-2 c = end-none _ _ _ (c .before .find .ensures) (c .if1 .left)
 
 pub line-end-spec : {M : Type 1} → statement M
-line-end-spec = tie.close (tie.spec find-requires add-result returns returns-2)
+line-end-spec = tie.close (tie.spec (λ c κs. search needs) (λ c. search needs) returns returns-2)

@@ -17,12 +17,6 @@ abbrev μ-loop : tie.MeasureT-loop
 loop-holds : tie.Need-loop-holds Inv-loop μ-loop
 loop-holds c = record { within = search needs; left = refl }
 
-shared-slice-read-digit : tie.Need-shared-slice-read-digit Inv-loop μ-loop
-shared-slice-read-digit c = search needs
-
-digit-requires : tie.Need-digit-requires Inv-loop μ-loop
-digit-requires c κs = search needs
-
 returns : tie.Need-returns Inv-loop μ-loop
 returns c =
     no-digit (c .before .before .before .before .loop .inv) (c .before .before .before .loop-test .taken) (c .before .digit .ensures) (c .if1 .taken)
@@ -39,19 +33,10 @@ returns-2 c =
     let some = c .before .before .before .before .before .before .before .pre .0 in
     too-large g (c .before .before .before .before .loop-test .taken) (c .before .before .digit .ensures) some (c .before .if1 .left) (c .if2 .taken)
 
-add-i : tie.Need-add-i Inv-loop μ-loop
-add-i c = search needs
-
-loop-less : tie.Need-loop-less Inv-loop μ-loop
-loop-less c = search needs
-
 loop-again : tie.Need-loop-again Inv-loop μ-loop
 loop-again c =
     let g = c .before .before .before .before .before .loop .inv in
     turn g (c .before .before .before .before .loop-test .taken) (c .before .before .digit .ensures) (c .before .if1 .left) (c .if2 .left)
-
-cast-t12 : tie.Need-cast-t12 Inv-loop μ-loop
-cast-t12 c = search needs
 
 returns-3 : tie.Need-returns-3 Inv-loop μ-loop
 returns-3 c = end (c .before .loop .inv) (c .loop-test .left)
@@ -59,18 +44,5 @@ returns-3 c = end (c .before .loop .inv) (c .loop-test .left)
 pub numeral-spec : {M : Type 1} → statement M
 numeral-spec =
     tie.close
-    (tie.spec
-    Inv-loop
-    μ-loop
-    loop-holds
-    shared-slice-read-digit
-    digit-requires
-    returns
-    mul-n
-    add-n
-    returns-2
-    add-i
-    loop-less
-    loop-again
-    cast-t12
-    returns-3)
+    (tie.spec Inv-loop μ-loop loop-holds (λ c. search needs) (λ c κs. search needs) returns mul-n add-n returns-2 (λ c. search needs)
+    (λ c. search needs) loop-again (λ c. search needs) returns-3)

@@ -7,9 +7,6 @@ use borrow.Author.Needs.{needs}
 use Rattle.text.proofs.read.pattern.Statement.{statement}
 use Rattle.text.proofs.read.pattern.Tie as tie
 
-numeral-requires : tie.Need-numeral-requires
-numeral-requires c κs = search needs
-
 returns : tie.Need-returns
 unfolding pattern
 returns c = rw (eq-eqb _ _ (c .before .if1 .taken)) (c .numeral .ensures ∙ eight-digits _ (c .before .if1 .taken))
@@ -19,4 +16,4 @@ unfolding pattern
 returns-2 c = rw (ne-eqb _ _ (c .if1 .left))
 
 pub pattern-spec : {M : Type 1} → statement M
-pattern-spec = tie.close (tie.spec numeral-requires returns returns-2)
+pattern-spec = tie.close (tie.spec (λ c κs. search needs) returns returns-2)

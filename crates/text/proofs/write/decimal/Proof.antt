@@ -6,18 +6,12 @@ use borrow.Author.Needs.{needs}
 use Rattle.text.proofs.write.decimal.Statement.{statement}
 use Rattle.text.proofs.write.decimal.Tie as tie
 
-places-requires : tie.Need-places-requires
-places-requires c κs = search needs
-
 digits-requires : tie.Need-digits-requires
 digits-requires c κs = (search needs, search needs, omega (arith, c .places .ensures, places-most 19 (c .before .before .before .args .n) (omega arith)))
-
-same-length : tie.Need-same-length
-same-length c = search needs
 
 returns : tie.Need-returns
 unfolding decimal
 returns c = rw (c .before .before .before .places .ensures) at (c .before .before .digits .ensures)
 
 pub decimal-spec : {M : Type 1} → statement M
-decimal-spec = tie.close (tie.spec places-requires digits-requires same-length returns)
+decimal-spec = tie.close (tie.spec (λ c κs. search needs) digits-requires (λ c. search needs) returns)

@@ -18,38 +18,14 @@ abbrev μ-loop : tie.MeasureT-loop
 loop-holds : tie.Need-loop-holds Inv-loop μ-loop
 loop-holds c = (search needs, begin _ _ _ _ (search needs))
 
-sub-i : tie.Need-sub-i Inv-loop μ-loop
-sub-i c = search needs
-
-rem-digit : tie.Need-rem-digit Inv-loop μ-loop
-rem-digit c = search needs
-
 digit-requires : tie.Need-digit-requires Inv-loop μ-loop
 digit-requires c κs = omega (arith, mod-lt (c .before .loop .rest) (c .before .before .before .pre .0))
-
-array-write-text : tie.Need-array-write-text Inv-loop μ-loop
-array-write-text c = search needs
-
-div-rest : tie.Need-div-rest Inv-loop μ-loop
-div-rest c = search needs
-
-loop-less : tie.Need-loop-less Inv-loop μ-loop
-loop-less c = search needs
 
 loop-again : tie.Need-loop-again Inv-loop μ-loop
 loop-again c = (search needs, rw (c .digit .ensures) (turn (c .before .before .loop .inv .1) (c .before .loop-test .taken)))
 
-array-share-prefix-text : tie.Need-array-share-prefix-text Inv-loop μ-loop
-array-share-prefix-text c = search needs
-
 slice-aggregate-bytes : tie.Need-slice-aggregate-bytes Inv-loop μ-loop
 slice-aggregate-bytes c = sym (length-take-le _ _ (c .before .before .before .loop .inv .1 .room))
-
-bytes-requires : tie.Need-bytes-requires Inv-loop μ-loop
-bytes-requires c κs = search needs
-
-same-length : tie.Need-same-length Inv-loop μ-loop
-same-length c = search needs
 
 returns : tie.Need-returns Inv-loop μ-loop
 returns c =
@@ -60,19 +36,5 @@ returns c =
 pub digits-spec : {M : Type 1} → statement M
 digits-spec =
     tie.close
-    (tie.spec
-    Inv-loop
-    μ-loop
-    loop-holds
-    sub-i
-    rem-digit
-    digit-requires
-    array-write-text
-    div-rest
-    loop-less
-    loop-again
-    array-share-prefix-text
-    slice-aggregate-bytes
-    bytes-requires
-    same-length
-    returns)
+    (tie.spec Inv-loop μ-loop loop-holds (λ c. search needs) (λ c. search needs) digit-requires (λ c. search needs) (λ c. search needs)
+    (λ c. search needs) loop-again (λ c. search needs) slice-aggregate-bytes (λ c κs. search needs) (λ c. search needs) returns)

@@ -12,9 +12,6 @@ returns : tie.Need-returns
 unfolding next round ofBits
 returns c = rw (c .before .if1 .taken)
 
-sub-remaining-samples : tie.Need-sub-remaining-samples
-sub-remaining-samples c = search needs
-
 returns-2 : tie.Need-returns-2
 unfolding next round ofBits
 returns-2 c =
@@ -28,4 +25,4 @@ returns-3 c =
     rw (counted (λ (k : ℕ). next k (a .self .pulse) (a .height) (a .decay-time)) (a .self .«remaining_samples») (c .before .before .if1 .left), ne-eqb _ _ (c .if2 .left))
 
 pub next-spec : {M : Type 1} → statement M
-next-spec = tie.close (tie.spec returns sub-remaining-samples returns-2 returns-3)
+next-spec = tie.close (tie.spec returns (λ c. search needs) returns-2 returns-3)

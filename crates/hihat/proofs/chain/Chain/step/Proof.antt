@@ -6,21 +6,6 @@ use Rattle.filter.specs.Svf.{stage}
 use Rattle.hihat.proofs.chain.Chain.step.Statement.{statement}
 use Rattle.hihat.proofs.chain.Chain.step.Tie as tie
 
-step-requires : tie.Need-step-requires
-step-requires c κs = search needs
-
-process-requires : tie.Need-process-requires
-process-requires c κs = search needs
-
-step-requires-2 : tie.Need-step-requires-2
-step-requires-2 c κs = search needs
-
-step-requires-3 : tie.Need-step-requires-3
-step-requires-3 c κs = search needs
-
-process-requires-2 : tie.Need-process-requires-2
-process-requires-2 c κs = search needs
-
 returns : tie.Need-returns
 unfolding into then stage
 returns c =
@@ -44,10 +29,4 @@ returns c =
 pub step-spec : {M : Type 1} → statement M
 step-spec =
     tie.close
-    (tie.spec
-    step-requires
-    process-requires
-    step-requires-2
-    step-requires-3
-    process-requires-2
-    returns)
+    (tie.spec (λ c κs. search needs) (λ c κs. search needs) (λ c κs. search needs) (λ c κs. search needs) (λ c κs. search needs) returns)

@@ -4,11 +4,8 @@ use mathlib.Core.Path.{refl}
 use Rattle.hihat.proofs.chain.ClockedNoise.step.Statement.{statement}
 use Rattle.hihat.proofs.chain.ClockedNoise.step.Tie as tie
 
-ticked-requires : tie.Need-ticked-requires
-ticked-requires c κs = search needs
-
 returns : tie.Need-returns
 returns c = rw (c .before .ticked .ensures) (refl, refl)
 
 pub step-spec : {M : Type 1} → statement M
-step-spec = tie.close (tie.spec ticked-requires returns)
+step-spec = tie.close (tie.spec (λ c κs. search needs) returns)

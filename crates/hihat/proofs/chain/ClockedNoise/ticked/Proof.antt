@@ -5,9 +5,6 @@ use Rattle.hihat.specs.Chain.{ticked}
 use Rattle.hihat.proofs.chain.ClockedNoise.ticked.Statement.{statement}
 use Rattle.hihat.proofs.chain.ClockedNoise.ticked.Tie as tie
 
-get-float-requires : tie.Need-get-float-requires
-get-float-requires c κs = search needs
-
 returns : tie.Need-returns
 unfolding ticked round ofBits
 returns c = rw (c .before .get-float .ensures, c .before .before .if1 .taken)
@@ -17,4 +14,4 @@ unfolding ticked round ofBits
 returns-2 c = rw (c .if1 .left)
 
 pub ticked-spec : {M : Type 1} → statement M
-ticked-spec = tie.close (tie.spec get-float-requires returns returns-2)
+ticked-spec = tie.close (tie.spec (λ c κs. search needs) returns returns-2)

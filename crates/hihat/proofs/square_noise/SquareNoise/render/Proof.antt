@@ -16,23 +16,8 @@ Inv-loop f0 out₀ increment noise₀ i₀ out noise i = Going (source (turn inc
 abbrev μ-loop : tie.MeasureT-loop
 μ-loop f0 out₀ increment noise₀ i₀ out noise i = length out - i
 
-increments-requires : tie.Need-increments-requires Inv-loop μ-loop
-increments-requires c κs = search needs
-
 loop-holds : tie.Need-loop-holds Inv-loop μ-loop
 loop-holds c = begin _ _ _ _ (omega arith)
-
-step-requires : tie.Need-step-requires Inv-loop μ-loop
-step-requires c κs = search needs
-
-mul-out : tie.Need-mul-out Inv-loop μ-loop
-mul-out c = search needs
-
-slice-write-out : tie.Need-slice-write-out Inv-loop μ-loop
-slice-write-out c = search needs
-
-add-i : tie.Need-add-i Inv-loop μ-loop
-add-i c = search needs
 
 loop-less : tie.Need-loop-less Inv-loop μ-loop
 loop-less c = simp length-set (omega arith)
@@ -51,16 +36,5 @@ returns c = rw (← c .before .before .increments .ensures) (end-source _ _ _ _ 
 pub render-spec : {M : Type 1} → statement M
 render-spec =
     tie.close
-    (tie.spec
-    Inv-loop
-    μ-loop
-    increments-requires
-    loop-holds
-    step-requires
-    mul-out
-    slice-write-out
-    add-i
-    loop-less
-    loop-again
-    same-length
-    returns)
+    (tie.spec Inv-loop μ-loop (λ c κs. search needs) loop-holds (λ c κs. search needs) (λ c. search needs) (λ c. search needs) (λ c. search needs)
+    loop-less loop-again same-length returns)

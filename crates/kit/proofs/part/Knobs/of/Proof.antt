@@ -4,30 +4,6 @@ use Rattle.kit.specs.Part.{knobsOf}
 use Rattle.kit.proofs.part.Knobs.of.Statement.{statement}
 use Rattle.kit.proofs.part.Knobs.of.Tie as tie
 
-enum-known-cue : tie.Need-enum-known-cue
-enum-known-cue c = search needs
-
-new-requires : tie.Need-new-requires
-new-requires c κs = search needs
-
-enum-known-cue-2 : tie.Need-enum-known-cue-2
-enum-known-cue-2 c = search needs
-
-new-requires-2 : tie.Need-new-requires-2
-new-requires-2 c κs = search needs
-
-enum-known-cue-3 : tie.Need-enum-known-cue-3
-enum-known-cue-3 c = search needs
-
-new-requires-3 : tie.Need-new-requires-3
-new-requires-3 c κs = search needs
-
-enum-known-cue-4 : tie.Need-enum-known-cue-4
-enum-known-cue-4 c = search needs
-
-new-requires-4 : tie.Need-new-requires-4
-new-requires-4 c κs = search needs
-
 returns : tie.Need-returns
 unfolding knobsOf
 returns c = rw (c .new .ensures, c .before .before .cue .given .1)
@@ -47,16 +23,5 @@ returns-4 c = rw (c .new4 .ensures, c .before .before .cue4 .given .1)
 pub of-spec : {M : Type 1} → statement M
 of-spec =
     tie.close
-    (tie.spec
-    enum-known-cue
-    new-requires
-    enum-known-cue-2
-    new-requires-2
-    enum-known-cue-3
-    new-requires-3
-    enum-known-cue-4
-    new-requires-4
-    returns
-    returns-2
-    returns-3
-    returns-4)
+    (tie.spec (λ c. search needs) (λ c κs. search needs) (λ c. search needs) (λ c κs. search needs) (λ c. search needs) (λ c κs. search needs)
+    (λ c. search needs) (λ c κs. search needs) returns returns-2 returns-3 returns-4)

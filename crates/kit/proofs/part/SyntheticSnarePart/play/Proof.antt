@@ -11,24 +11,6 @@ returns : tie.Need-returns
 unfolding syntheticSnareInto syntheticSnareAfter
 returns c = rw (not-true (c .before .before .before .before .before .args .self .playing .struck) (c .if1 .taken)) (refl, refl)
 
-clear-requires : tie.Need-clear-requires
-clear-requires c κs = search needs
-
-render-requires : tie.Need-render-requires
-render-requires c κs = search needs
-
-add-to-requires : tie.Need-add-to-requires
-add-to-requires c κs = search needs
-
-held-requires : tie.Need-held-requires
-held-requires c κs = search needs
-
-same-length : tie.Need-same-length
-same-length c = search needs
-
-same-length-2 : tie.Need-same-length-2
-same-length-2 c = search needs
-
 returns-2 : tie.Need-returns-2
 unfolding syntheticSnareInto syntheticSnareAfter
 returns-2 c =
@@ -45,12 +27,5 @@ returns-2 c =
 pub play-spec : {M : Type 1} → statement M
 play-spec =
     tie.close
-    (tie.spec
-    returns
-    clear-requires
-    render-requires
-    add-to-requires
-    held-requires
-    same-length
-    same-length-2
-    returns-2)
+    (tie.spec returns (λ c κs. search needs) (λ c κs. search needs) (λ c κs. search needs) (λ c κs. search needs) (λ c. search needs)
+    (λ c. search needs) returns-2)

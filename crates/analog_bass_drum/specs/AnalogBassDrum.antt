@@ -27,6 +27,26 @@ diode x =
 
 -- ---- init
 
+-- `ZERO`
+unfoldable pub zero : AnalogBassDrum
+zero = record {
+  «pulse_remaining_samples» = 0;
+  «fm_pulse_remaining_samples» = 0;
+  pulse = decimal 0 0;
+  «pulse_height» = decimal 0 0;
+  «pulse_lp» = decimal 0 0;
+  «fm_pulse_lp» = decimal 0 0;
+  «retrig_pulse» = decimal 0 0;
+  «lp_out» = decimal 0 0;
+  «tone_lp» = decimal 0 0;
+  resonator = Svf.zero;
+  «trigger_pulse_duration» = 0;
+  «fm_pulse_duration» = 0;
+  «pulse_decay_time» = decimal 0 0;
+  «pulse_filter_time» = decimal 0 0;
+  «retrig_pulse_duration» = decimal 0 0;
+}
+
 unfoldable pub initialized : AnalogBassDrum → Float → AnalogBassDrum
 initialized v sampleRateHz =
     record {

@@ -13,6 +13,7 @@ use refusal::Answer;
 use refusal::Refusal;
 use trigger_pulse::TriggerPulse;
 
+#[repr(C)]
 pub struct AnalogBassDrum {
     pub pulse_remaining_samples: u32,
     pub fm_pulse_remaining_samples: u32,
@@ -79,6 +80,25 @@ fn diode(x: f32) -> f32
 }
 
 impl AnalogBassDrum {
+    // Every field zero, for `init` to overwrite.
+    pub const ZERO: AnalogBassDrum = AnalogBassDrum {
+        pulse_remaining_samples: 0,
+        fm_pulse_remaining_samples: 0,
+        pulse: 0.0,
+        pulse_height: 0.0,
+        pulse_lp: 0.0,
+        fm_pulse_lp: 0.0,
+        retrig_pulse: 0.0,
+        lp_out: 0.0,
+        tone_lp: 0.0,
+        resonator: Svf::ZERO,
+        trigger_pulse_duration: 0,
+        fm_pulse_duration: 0,
+        pulse_decay_time: 0.0,
+        pulse_filter_time: 0.0,
+        retrig_pulse_duration: 0.0,
+    };
+
     pub fn init(self, sample_rate_hz: f32) -> Answered
         ensures answer { λ r. ⌜ answerNumber (r .answer) ≡ spec.initRefusal «sample_rate_hz» ⌝ }
         ensures voice { λ r. ⌜ r .voice ≡ spec.init self «sample_rate_hz» ⌝ }
@@ -105,21 +125,13 @@ impl AnalogBassDrum {
     {
         let resonator = self.resonator.init();
         AnalogBassDrum {
-            pulse_remaining_samples: 0,
-            fm_pulse_remaining_samples: 0,
-            pulse: 0.0,
-            pulse_height: 0.0,
-            pulse_lp: 0.0,
-            fm_pulse_lp: 0.0,
-            retrig_pulse: 0.0,
-            lp_out: 0.0,
-            tone_lp: 0.0,
             resonator,
             trigger_pulse_duration: ieee754::truncate_u32(1.0e-3 * sample_rate_hz),
             fm_pulse_duration: ieee754::truncate_u32(6.0e-3 * sample_rate_hz),
             pulse_decay_time: 0.2e-3 * sample_rate_hz,
             pulse_filter_time: 0.1e-3 * sample_rate_hz,
             retrig_pulse_duration: 0.05 * sample_rate_hz,
+            ..AnalogBassDrum::ZERO
         }
     }
 
@@ -270,18 +282,13 @@ impl AnalogBassDrum {
             pulse_remaining_samples: e.pulse_remaining_samples,
             fm_pulse_remaining_samples: e.fm_pulse_remaining_samples,
             pulse: e.pulse,
-            pulse_height: self.pulse_height,
             pulse_lp: e.pulse_lp,
             fm_pulse_lp: e.fm_pulse_lp,
             retrig_pulse: m.retrig_pulse,
             lp_out: d.out_2,
             tone_lp,
             resonator,
-            trigger_pulse_duration: self.trigger_pulse_duration,
-            fm_pulse_duration: self.fm_pulse_duration,
-            pulse_decay_time: self.pulse_decay_time,
-            pulse_filter_time: self.pulse_filter_time,
-            retrig_pulse_duration: self.retrig_pulse_duration,
+            ..self
         }
     }
 

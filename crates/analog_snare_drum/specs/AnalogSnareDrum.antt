@@ -36,6 +36,20 @@ filterOf resonator i = getD resonator i (record { g = nan; r = nan; h = nan; sta
 
 -- ---- init
 
+-- `ZERO`
+unfoldable pub zero : AnalogSnareDrum
+zero = record {
+  «pulse_remaining_samples» = 0;
+  pulse = decimal 0 0;
+  «pulse_height» = decimal 0 0;
+  «pulse_lp» = decimal 0 0;
+  «noise_envelope» = decimal 0 0;
+  resonator = modes (λ i. Filter.zero);
+  «noise_filter» = Filter.zero;
+  «trigger_pulse_duration» = 0;
+  «pulse_decay_time» = 0;
+}
+
 unfoldable pub initialized : AnalogSnareDrum → Float → AnalogSnareDrum
 initialized v sampleRateHz =
     record {

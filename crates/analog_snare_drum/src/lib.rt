@@ -15,6 +15,7 @@ use trigger_pulse::TriggerPulse;
 
 const MODE_FREQUENCIES: [f32; 5] = [1.00, 2.00, 3.18, 4.16, 5.62];
 
+#[repr(C)]
 pub struct AnalogSnareDrum {
     pub pulse_remaining_samples: u32,
     pub pulse: f32,
@@ -92,6 +93,19 @@ struct NoiseOutput {
 }
 
 impl AnalogSnareDrum {
+    // Every field zero, for `init` to overwrite.
+    pub const ZERO: AnalogSnareDrum = AnalogSnareDrum {
+        pulse_remaining_samples: 0,
+        pulse: 0.0,
+        pulse_height: 0.0,
+        pulse_lp: 0.0,
+        noise_envelope: 0.0,
+        resonator: [Svf::ZERO; 5],
+        noise_filter: Svf::ZERO,
+        trigger_pulse_duration: 0,
+        pulse_decay_time: 0,
+    };
+
     pub fn init(self, sample_rate_hz: f32) -> Answered
         ensures answer { λ r. ⌜ answerNumber (r .answer) ≡ spec.initRefusal «sample_rate_hz» ⌝ }
         ensures voice { λ r. ⌜ r .voice ≡ spec.init self «sample_rate_hz» ⌝ }
@@ -125,15 +139,11 @@ impl AnalogSnareDrum {
         let resonator = [r0, r1, r2, r3, r4];
         let noise_filter = self.noise_filter.init();
         AnalogSnareDrum {
-            pulse_remaining_samples: 0,
-            pulse: 0.0,
-            pulse_height: 0.0,
-            pulse_lp: 0.0,
-            noise_envelope: 0.0,
             resonator,
             noise_filter,
             trigger_pulse_duration: ieee754::truncate_u32(1.0e-3 * sample_rate_hz),
             pulse_decay_time: ieee754::truncate_u32(0.1e-3 * sample_rate_hz),
+            ..AnalogSnareDrum::ZERO
         }
     }
 
@@ -279,13 +289,11 @@ impl AnalogSnareDrum {
         let voice = AnalogSnareDrum {
             pulse_remaining_samples: e.remaining_samples,
             pulse: e.pulse,
-            pulse_height: self.pulse_height,
             pulse_lp: e.pulse_lp,
             noise_envelope: n.noise_envelope,
             resonator,
             noise_filter,
-            trigger_pulse_duration: self.trigger_pulse_duration,
-            pulse_decay_time: self.pulse_decay_time,
+            ..self
         };
         Step {
             voice,

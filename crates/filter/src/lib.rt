@@ -49,6 +49,7 @@ const ACCURATE_D: f32 = 2.900525e-03 * M_PI_POW_9;
 
 const ACCURATE_E: f32 = 9.5168091e-03 * M_PI_POW_11;
 
+#[repr(C)]
 pub struct OnePole {
     pub g: f32,
     pub gi: f32,
@@ -56,12 +57,20 @@ pub struct OnePole {
 }
 
 // A filter after one sample, and its output.
+#[repr(C)]
 pub struct OnePoleOutput {
     pub filter: OnePole,
     pub out: f32,
 }
 
 impl OnePole {
+    // Every field zero, for `init` to overwrite.
+    pub const ZERO: OnePole = OnePole {
+        g: 0.0,
+        gi: 0.0,
+        state: 0.0,
+    };
+
     pub fn init(self) -> Self
         ensures { λ r. ⌜ r ≡ one-pole.init self ⌝ }
     {
@@ -117,6 +126,7 @@ impl OnePole {
     }
 }
 
+#[repr(C)]
 pub struct Svf {
     pub g: f32,
     pub r: f32,
@@ -126,12 +136,14 @@ pub struct Svf {
 }
 
 // A filter after one sample, and its output in one mode.
+#[repr(C)]
 pub struct SvfOutput {
     pub filter: Svf,
     pub out: f32,
 }
 
 // A filter after one sample, and its outputs in two modes.
+#[repr(C)]
 pub struct SvfDualOutput {
     pub filter: Svf,
     pub out_1: f32,
@@ -160,6 +172,15 @@ impl Passed {
 }
 
 impl Svf {
+    // Every field zero, for `init` to overwrite.
+    pub const ZERO: Svf = Svf {
+        g: 0.0,
+        r: 0.0,
+        h: 0.0,
+        state_1: 0.0,
+        state_2: 0.0,
+    };
+
     pub fn init(self) -> Self
         ensures { λ r. ⌜ r ≡ svf.init self ⌝ }
     {

@@ -23,6 +23,7 @@ pub enum VcaType {
     Linear,
 }
 
+#[repr(C)]
 pub struct Hihat {
     pub sample_rate: f32,
     pub envelope: f32,
@@ -48,6 +49,18 @@ pub struct Rendered {
 }
 
 impl Hihat {
+    // Every field zero, for `init` to overwrite.
+    pub const ZERO: Hihat = Hihat {
+        sample_rate: 0.0,
+        envelope: 0.0,
+        noise_clock: 0.0,
+        noise_sample: 0.0,
+        sustain_gain: 0.0,
+        square_noise: SquareNoise::ZERO,
+        noise_coloration_svf: Svf::ZERO,
+        hpf: Svf::ZERO,
+    };
+
     pub fn init(self, sample_rate: f32) -> Answered
         ensures answer { λ r. ⌜ answerNumber (r .answer) ≡ spec.initRefusal «sample_rate» ⌝ }
         ensures voice { λ r. ⌜ r .voice ≡ spec.init self «sample_rate» ⌝ }
@@ -77,13 +90,10 @@ impl Hihat {
         let hpf = self.hpf.init();
         Hihat {
             sample_rate,
-            envelope: 0.0,
-            noise_clock: 0.0,
-            noise_sample: 0.0,
-            sustain_gain: 0.0,
             square_noise,
             noise_coloration_svf,
             hpf,
+            ..Hihat::ZERO
         }
     }
 
@@ -169,16 +179,10 @@ impl Hihat {
             .set_f_q(cutoff, q, FrequencyApproximation::Accurate);
         let hpf = self.hpf
             .set_f_q(cutoff, 0.5, FrequencyApproximation::Accurate);
-        let square_noise = self.square_noise;
         Hihat {
-            sample_rate: self.sample_rate,
-            envelope: self.envelope,
-            noise_clock: self.noise_clock,
-            noise_sample: self.noise_sample,
-            sustain_gain: self.sustain_gain,
-            square_noise,
             noise_coloration_svf,
             hpf,
+            ..self
         }
     }
 

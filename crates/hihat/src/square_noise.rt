@@ -8,6 +8,7 @@ ghost use Rattle.hihat.specs.SquareNoise as spec;
 // The Rust's `ratios`.
 const RATIOS: [f32; 6] = [1.0, 1.304, 1.466, 1.787, 1.932, 2.536];
 
+#[repr(C)]
 pub struct SquareNoise {
     pub phase: [u32; 6],
 }
@@ -19,12 +20,13 @@ pub struct SquareSample {
 }
 
 impl SquareNoise {
+    // Every field zero, for `init` to overwrite.
+    pub const ZERO: SquareNoise = SquareNoise { phase: [0; 6] };
+
     pub fn init(self) -> Self
         ensures { λ r. ⌜ r ≡ spec.init ⌝ }
     {
-        SquareNoise {
-            phase: [0, 0, 0, 0, 0, 0],
-        }
+        SquareNoise::ZERO
     }
 
     // Any f0 and any length: there is nothing to refuse.

@@ -11,7 +11,6 @@ use Rattle.analog_snare_drum.specs.AnalogSnareDrum as AnalogSnareDrum
 use Rattle.synthetic_snare_drum.specs.SyntheticSnareDrum as SyntheticSnareDrum
 use Rattle.hihat.specs.Hihat as hihat
 use Rattle.kit.specs.Mix.{silence}
-use Rattle.zero.specs.Zero as Zero
 use Rattle.cue_sheet.specs.declared.Cue.{Cue}
 use Rattle.cue_sheet.specs.declared.Cue.the-variants.{Bass, Snare, SyntheticSnare, Hihat}
 use Rattle.kit.specs.Part as Part
@@ -32,10 +31,10 @@ unfoldable pub start : ℕ → Kit
 start rate =
     let sampleRate = ofInt binary32 (pos rate) in
     record {
-      bass = record { voice = AnalogBassDrum.init Zero.bass sampleRate; playing = unstruck };
-      snare = record { voice = AnalogSnareDrum.init Zero.snare sampleRate; playing = unstruck };
-      «synthetic_snare» = record { voice = SyntheticSnareDrum.init Zero.syntheticSnare sampleRate; playing = unstruck };
-      hihat = record { voice = hihat.init Zero.hihat sampleRate; playing = unstruck };
+      bass = record { voice = AnalogBassDrum.init AnalogBassDrum.zero sampleRate; playing = unstruck };
+      snare = record { voice = AnalogSnareDrum.init AnalogSnareDrum.zero sampleRate; playing = unstruck };
+      «synthetic_snare» = record { voice = SyntheticSnareDrum.init SyntheticSnareDrum.zero sampleRate; playing = unstruck };
+      hihat = record { voice = hihat.init hihat.zero sampleRate; playing = unstruck };
       noise = 33;
     }
 

@@ -8,13 +8,17 @@ ghost use Prim.Native.Nat.{min};
 ghost use lib.ListN.{length, drop};
 ghost use Rattle.kit.specs.Mix.{silence};
 ghost use Rattle.kit.specs.Kit as spec;
+use analog_bass_drum::AnalogBassDrum;
+use analog_snare_drum::AnalogSnareDrum;
 use cue_sheet::Cue;
+use hihat::Hihat;
 use part::BassPart;
 use part::HihatPart;
 use part::Knobs;
 use part::Playing;
 use part::SnarePart;
 use part::SyntheticSnarePart;
+use synthetic_snare_drum::SyntheticSnareDrum;
 
 pub struct Kit {
     pub bass: BassPart,
@@ -30,10 +34,10 @@ impl Kit {
         ensures { λ r. ⌜ r ≡ spec.start rate ⌝ }
     {
         let sample_rate = ieee754::nearest_f32(rate);
-        let bass = zero::bass().init(sample_rate).voice;
-        let snare = zero::snare().init(sample_rate).voice;
-        let synthetic_snare = zero::synthetic_snare().init(sample_rate).voice;
-        let hihat = zero::hihat().init(sample_rate).voice;
+        let bass = AnalogBassDrum::ZERO.init(sample_rate).voice;
+        let snare = AnalogSnareDrum::ZERO.init(sample_rate).voice;
+        let synthetic_snare = SyntheticSnareDrum::ZERO.init(sample_rate).voice;
+        let hihat = Hihat::ZERO.init(sample_rate).voice;
         let playing = unstruck();
         Kit {
             bass: BassPart {

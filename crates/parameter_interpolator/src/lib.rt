@@ -3,6 +3,7 @@
 ghost use mathlib.Core.Path.{_≡_};
 ghost use Rattle.parameter_interpolator.specs.ParameterInterpolator as spec;
 
+#[repr(C)]
 pub struct ParameterInterpolator {
     pub value: f32,
     pub increment: f32,

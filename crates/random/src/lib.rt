@@ -4,6 +4,7 @@ ghost use Prim.Native.Nat.{_*_, _%_, _^_};
 ghost use Rattle.random.specs.Random as spec;
 
 // A float drawn. The word drawn with it is the next state.
+#[repr(C)]
 pub struct Draw {
     pub word: u32,
     pub value: f32,

@@ -29,6 +29,21 @@ use Rattle.synthetic_snare_drum.specs.declared.SnareOutput.{SnareOutput}
 
 -- ---- init
 
+-- `ZERO`
+unfoldable pub zero : SyntheticSnareDrum
+zero = record {
+  «sample_rate_hz» = decimal 0 0;
+  phase = decimal 0 0 ∷ decimal 0 0 ∷ [];
+  «drum_amplitude» = decimal 0 0;
+  «snare_amplitude» = decimal 0 0;
+  fm = decimal 0 0;
+  «sustain_gain» = decimal 0 0;
+  «hold_counter» = 0;
+  «drum_lp» = OnePole.zero;
+  «snare_hp» = OnePole.zero;
+  «snare_lp» = Svf.zero;
+}
+
 unfoldable pub initialized : SyntheticSnareDrum → Float → SyntheticSnareDrum
 initialized v sampleRateHz =
     record {

@@ -16,6 +16,7 @@ use parameter_interpolator::ParameterInterpolator;
 use refusal::Answer;
 use refusal::Refusal;
 
+#[repr(C)]
 pub struct SyntheticSnareDrum {
     pub sample_rate_hz: f32,
     pub phase: [f32; 2],
@@ -85,6 +86,20 @@ struct SnareOutput {
 }
 
 impl SyntheticSnareDrum {
+    // Every field zero, for `init` to overwrite.
+    pub const ZERO: SyntheticSnareDrum = SyntheticSnareDrum {
+        sample_rate_hz: 0.0,
+        phase: [0.0, 0.0],
+        drum_amplitude: 0.0,
+        snare_amplitude: 0.0,
+        fm: 0.0,
+        sustain_gain: 0.0,
+        hold_counter: 0,
+        drum_lp: OnePole::ZERO,
+        snare_hp: OnePole::ZERO,
+        snare_lp: Svf::ZERO,
+    };
+
     pub fn init(self, sample_rate_hz: f32) -> Answered
         ensures answer { λ r. ⌜ answerNumber (r .answer) ≡ spec.initRefusal «sample_rate_hz» ⌝ }
         ensures voice { λ r. ⌜ r .voice ≡ spec.init self «sample_rate_hz» ⌝ }
@@ -114,15 +129,10 @@ impl SyntheticSnareDrum {
         let snare_lp = self.snare_lp.init();
         SyntheticSnareDrum {
             sample_rate_hz,
-            phase: [0.0, 0.0],
-            drum_amplitude: 0.0,
-            snare_amplitude: 0.0,
-            fm: 0.0,
-            sustain_gain: 0.0,
-            hold_counter: 0,
             drum_lp,
             snare_hp,
             snare_lp,
+            ..SyntheticSnareDrum::ZERO
         }
     }
 
@@ -310,16 +320,15 @@ impl Sounding {
         let snare_lp = snare.snare_lp;
         let gain = envelopes.gain;
         let voice = SyntheticSnareDrum {
-            sample_rate_hz: old.sample_rate_hz,
             phase,
             drum_amplitude: envelopes.drum_amplitude,
             snare_amplitude: envelopes.snare_amplitude,
             fm: envelopes.fm,
-            sustain_gain: old.sustain_gain,
             hold_counter: envelopes.hold_counter,
             drum_lp,
             snare_hp,
             snare_lp,
+            ..old
         };
         Sounded {
             sample: snare.out + drum.out,

@@ -1,5 +1,7 @@
 // The examples at the edges that are run: each prints the number that a call answers, 0 where it is accepted. Those that are theorems are in proofs/Table.antt.
+use analog_bass_drum::AnalogBassDrum;
 use cue_sheet::Judgment;
+use hihat::Hihat;
 use hihat::VcaType;
 use libc::STDOUT_FILENO;
 use refusal::Answer;
@@ -13,20 +15,20 @@ fn print(example: &[u8], answer: Answer) {
 
 // A bass struck at f0, over a block.
 fn struck(f0: f32, out: &mut [f32]) -> Answer {
-    let started = zero::bass().init(48000.0);
+    let started = AnalogBassDrum::ZERO.init(48000.0);
     let voice = started.voice;
     let rendered = voice.render(true, 1.0, f0, 0.5, 0.5, 0.0, 0.0, out);
     rendered.answer
 }
 
 fn started(rate: f32) -> Answer {
-    let started = zero::bass().init(rate);
+    let started = AnalogBassDrum::ZERO.init(rate);
     started.answer
 }
 
 // A hi-hat whose record holds no rate.
 fn struck_unstarted(f0: f32, out: &mut [f32]) -> Answer {
-    let rendered = zero::hihat().render(
+    let rendered = Hihat::ZERO.render(
         33,
         false,
         true,

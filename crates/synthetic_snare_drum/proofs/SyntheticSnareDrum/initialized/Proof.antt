@@ -7,7 +7,7 @@ use Rattle.synthetic_snare_drum.proofs.SyntheticSnareDrum.initialized.T
 
 returns : tie.Need-returns
 unfolding initialized round ofBits
-returns c = rw (c .init3 .ensures, c .before .init2 .ensures, c .before .before .init .ensures)
+returns c = rw (c .before .init3 .ensures, c .before .before .init2 .ensures, c .before .before .before .init .ensures)
 
 pub initialized-spec : {M : Type 1} → statement M
 initialized-spec = tie.close (tie.spec (λ c κs. search needs) (λ c κs. search needs) (λ c κs. search needs) returns)

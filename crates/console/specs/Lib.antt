@@ -1,0 +1,3 @@
+-- The definitions of `console`.
+pub mod Enums
+pub mod Sheet

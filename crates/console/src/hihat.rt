@@ -1,0 +1,120 @@
+// The 808 hi-hat, and the square noise by itself.
+ghost use mathlib.Core.Path.{_≡_};
+ghost use lib.ListN.{length};
+ghost use Rattle.block.specs.Block.{samples, after};
+ghost use Rattle.hihat.specs.SquareNoise as square;
+ghost use Rattle.hihat.specs.Hihat as spec;
+ghost use Rattle.console.specs.Enums.{vcaType};
+use crate::enums;
+use hihat::Hihat;
+use hihat::SquareNoise;
+
+// The number of the refusal, 0 for an accepted call, and the voice after the call.
+#[repr(C)]
+pub struct HihatAnswered {
+    pub number: u32,
+    pub voice: Hihat,
+}
+
+// The same, and the noise state after the call.
+#[repr(C)]
+pub struct HihatRendered {
+    pub number: u32,
+    pub voice: Hihat,
+    pub noise: u32,
+}
+
+// Every field zero, for `init` to overwrite.
+#[no_mangle]
+pub extern "C" fn bechullpi_hihat_zero() -> Hihat
+    ensures { λ r. ⌜ r ≡ spec.zero ⌝ }
+{
+    Hihat::ZERO
+}
+
+// Refused by 1.
+#[no_mangle]
+pub extern "C" fn bechullpi_hihat_init(voice: Hihat, sample_rate: f32) -> HihatAnswered
+    ensures number { λ r. ⌜ r .number ≡ spec.initRefusal «sample_rate» ⌝ }
+    ensures voice { λ r. ⌜ r .voice ≡ spec.init voice «sample_rate» ⌝ }
+{
+    let a = voice.init(sample_rate);
+    let answer = a.answer;
+    let voice = a.voice;
+    HihatAnswered {
+        number: answer.number(),
+        voice,
+    }
+}
+
+// Refused by 1, of the rate that the voice stores, 2, 3, 4 and 5. The VCA is the swing one unless `linear` is set.
+#[no_mangle]
+pub extern "C" fn bechullpi_hihat_render(
+    voice: Hihat,
+    noise: u32,
+    sustain: bool,
+    trigger: bool,
+    accent: f32,
+    f0: f32,
+    tone: f32,
+    decay: f32,
+    noisiness: f32,
+    out: &mut [f32],
+    linear: bool,
+    resonance: bool,
+    two_stage_envelope: bool,
+) -> HihatRendered
+    ensures number { λ r. ⌜ r .number ≡ spec.renderRefusal (voice .«sample_rate») (length (now (out .entry))) accent f0 tone decay noisiness ⌝ }
+    ensures voice { λ r. ⌜ r .voice ≡ spec.render voice noise sustain trigger accent f0 tone decay noisiness (length (now (out .entry))) (vcaType linear) resonance «two_stage_envelope» ⌝ }
+    ensures noise { λ r. ⌜ r .noise ≡ spec.renderNoise voice noise sustain trigger accent f0 tone decay noisiness (length (now (out .entry))) (vcaType linear) resonance «two_stage_envelope» ⌝ }
+    ensures block { λ _. ⌜ now (out .exit) ≡ spec.renderOut voice noise sustain trigger accent f0 tone decay noisiness (now (out .entry)) (vcaType linear) resonance «two_stage_envelope» ⌝ }
+{
+    let a = voice.render(
+        noise,
+        sustain,
+        trigger,
+        accent,
+        f0,
+        tone,
+        decay,
+        noisiness,
+        out,
+        enums::vca_type(linear),
+        resonance,
+        two_stage_envelope,
+    );
+    let answer = a.answer;
+    let voice = a.voice;
+    HihatRendered {
+        number: answer.number(),
+        voice,
+        noise: a.noise,
+    }
+}
+
+#[no_mangle]
+pub extern "C" fn bechullpi_hihat_square_noise_zero() -> SquareNoise
+    ensures { λ r. ⌜ r ≡ square.init ⌝ }
+{
+    SquareNoise::ZERO
+}
+
+#[no_mangle]
+pub extern "C" fn bechullpi_hihat_square_noise_init(noise: SquareNoise) -> SquareNoise
+    ensures { λ r. ⌜ r ≡ square.init ⌝ }
+{
+    noise.init()
+}
+
+// Any f0 and any length: nothing is refused.
+#[no_mangle]
+pub extern "C" fn bechullpi_hihat_square_noise_render(
+    noise: SquareNoise,
+    f0: f32,
+    out: &mut [f32],
+) -> SquareNoise
+    ensures noise { λ r. ⌜ r ≡ after (square.turn (square.increments f0)) (length (now (out .entry))) noise ⌝ }
+    ensures block { λ _. ⌜ now (out .exit) ≡ samples (square.turn (square.increments f0)) (length (now (out .entry))) noise ⌝ }
+{
+    noise.render(f0, out)
+}

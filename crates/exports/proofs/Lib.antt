@@ -1,2 +1,0 @@
--- The laws of `exports` beside the proofs of its functions.
-mod Renders

@@ -1,2 +1,0 @@
--- The definitions of `zero`.
-pub mod Zero

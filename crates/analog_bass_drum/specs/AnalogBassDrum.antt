@@ -27,9 +27,8 @@ diode x =
 
 -- ---- init
 
--- `ZERO`
-unfoldable pub zero : AnalogBassDrum
-zero = record {
+unfoldable pub ZERO : AnalogBassDrum
+ZERO = record {
   «pulse_remaining_samples» = 0;
   «fm_pulse_remaining_samples» = 0;
   pulse = decimal 0 0;
@@ -39,7 +38,7 @@ zero = record {
   «retrig_pulse» = decimal 0 0;
   «lp_out» = decimal 0 0;
   «tone_lp» = decimal 0 0;
-  resonator = Svf.zero;
+  resonator = Svf.ZERO;
   «trigger_pulse_duration» = 0;
   «fm_pulse_duration» = 0;
   «pulse_decay_time» = decimal 0 0;

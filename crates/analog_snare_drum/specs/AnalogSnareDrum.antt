@@ -36,16 +36,15 @@ filterOf resonator i = getD resonator i (record { g = nan; r = nan; h = nan; sta
 
 -- ---- init
 
--- `ZERO`
-unfoldable pub zero : AnalogSnareDrum
-zero = record {
+unfoldable pub ZERO : AnalogSnareDrum
+ZERO = record {
   «pulse_remaining_samples» = 0;
   pulse = decimal 0 0;
   «pulse_height» = decimal 0 0;
   «pulse_lp» = decimal 0 0;
   «noise_envelope» = decimal 0 0;
-  resonator = modes (λ i. Filter.zero);
-  «noise_filter» = Filter.zero;
+  resonator = modes (λ i. Filter.ZERO);
+  «noise_filter» = Filter.ZERO;
   «trigger_pulse_duration» = 0;
   «pulse_decay_time» = 0;
 }

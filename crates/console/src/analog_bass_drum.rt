@@ -14,7 +14,7 @@ pub struct AnalogBassDrumAnswered {
 // Every field zero, for `init` to overwrite.
 #[no_mangle]
 pub extern "C" fn bechullpi_analog_bass_drum_zero() -> AnalogBassDrum
-    ensures { λ r. ⌜ r ≡ spec.zero ⌝ }
+    ensures { λ r. ⌜ r ≡ spec.ZERO ⌝ }
 {
     AnalogBassDrum::ZERO
 }

@@ -22,7 +22,7 @@ pub struct AnalogSnareDrumRendered {
 // Every field zero, for `init` to overwrite.
 #[no_mangle]
 pub extern "C" fn bechullpi_analog_snare_drum_zero() -> AnalogSnareDrum
-    ensures { λ r. ⌜ r ≡ spec.zero ⌝ }
+    ensures { λ r. ⌜ r ≡ spec.ZERO ⌝ }
 {
     AnalogSnareDrum::ZERO
 }

@@ -15,7 +15,7 @@ use filter::SvfOutput;
 // Every field zero, for `init` to overwrite.
 #[no_mangle]
 pub extern "C" fn bechullpi_filter_one_pole_zero() -> OnePole
-    ensures { λ r. ⌜ r ≡ one-pole.zero ⌝ }
+    ensures { λ r. ⌜ r ≡ one-pole.ZERO ⌝ }
 {
     OnePole::ZERO
 }
@@ -71,7 +71,7 @@ pub extern "C" fn bechullpi_filter_one_pole_process(
 // Every field zero, for `init` to overwrite.
 #[no_mangle]
 pub extern "C" fn bechullpi_filter_svf_zero() -> Svf
-    ensures { λ r. ⌜ r ≡ svf.zero ⌝ }
+    ensures { λ r. ⌜ r ≡ svf.ZERO ⌝ }
 {
     Svf::ZERO
 }

@@ -27,7 +27,7 @@ pub struct HihatRendered {
 // Every field zero, for `init` to overwrite.
 #[no_mangle]
 pub extern "C" fn bechullpi_hihat_zero() -> Hihat
-    ensures { λ r. ⌜ r ≡ spec.zero ⌝ }
+    ensures { λ r. ⌜ r ≡ spec.ZERO ⌝ }
 {
     Hihat::ZERO
 }

@@ -22,7 +22,7 @@ pub struct SyntheticSnareDrumRendered {
 // Every field zero, for `init` to overwrite.
 #[no_mangle]
 pub extern "C" fn bechullpi_synthetic_snare_drum_zero() -> SyntheticSnareDrum
-    ensures { λ r. ⌜ r ≡ spec.zero ⌝ }
+    ensures { λ r. ⌜ r ≡ spec.ZERO ⌝ }
 {
     SyntheticSnareDrum::ZERO
 }

@@ -48,9 +48,8 @@ tan f Accurate =
     let f2 = f ⊗ f in
     f ⊗ (π ⊕ f2 ⊗ (a ⊕ f2 ⊗ (b ⊕ f2 ⊗ (c ⊕ f2 ⊗ (d ⊕ f2 ⊗ e)))))
 
--- `ZERO`
-unfoldable pub zero : OnePole
-zero = record { g = decimal 0 0; gi = decimal 0 0; state = decimal 0 0 }
+unfoldable pub ZERO : OnePole
+ZERO = record { g = decimal 0 0; gi = decimal 0 0; state = decimal 0 0 }
 
 unfoldable pub reset : OnePole → OnePole
 reset s = record { g = s .g; gi = s .gi; state = decimal 0 0 }

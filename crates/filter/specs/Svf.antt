@@ -14,9 +14,8 @@ use Rattle.filter.specs.declared.FrequencyApproximation.{FrequencyApprox
 use Rattle.filter.specs.declared.FrequencyApproximation.the-variants.{Dirty}
 use Rattle.filter.specs.OnePole.{tan}
 
--- `ZERO`
-unfoldable pub zero : Svf
-zero = record { g = decimal 0 0; r = decimal 0 0; h = decimal 0 0; state_1 = decimal 0 0; state_2 = decimal 0 0 }
+unfoldable pub ZERO : Svf
+ZERO = record { g = decimal 0 0; r = decimal 0 0; h = decimal 0 0; state_1 = decimal 0 0; state_2 = decimal 0 0 }
 
 unfoldable pub reset : Svf → Svf
 reset s = record { g = s .g; r = s .r; h = s .h; state_1 = decimal 0 0; state_2 = decimal 0 0 }

@@ -21,17 +21,16 @@ use Rattle.hihat.specs.Chain.{passed, filtered}
 
 -- ---- init
 
--- `ZERO`
-unfoldable pub zero : Hihat
-zero = record {
+unfoldable pub ZERO : Hihat
+ZERO = record {
   «sample_rate» = decimal 0 0;
   envelope = decimal 0 0;
   «noise_clock» = decimal 0 0;
   «noise_sample» = decimal 0 0;
   «sustain_gain» = decimal 0 0;
   «square_noise» = SquareNoise.init;
-  «noise_coloration_svf» = Svf.zero;
-  hpf = Svf.zero;
+  «noise_coloration_svf» = Svf.ZERO;
+  hpf = Svf.ZERO;
 }
 
 unfoldable pub initialized : Hihat → Float → Hihat

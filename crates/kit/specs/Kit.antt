@@ -31,10 +31,10 @@ unfoldable pub start : ℕ → Kit
 start rate =
     let sampleRate = ofInt binary32 (pos rate) in
     record {
-      bass = record { voice = AnalogBassDrum.init AnalogBassDrum.zero sampleRate; playing = unstruck };
-      snare = record { voice = AnalogSnareDrum.init AnalogSnareDrum.zero sampleRate; playing = unstruck };
-      «synthetic_snare» = record { voice = SyntheticSnareDrum.init SyntheticSnareDrum.zero sampleRate; playing = unstruck };
-      hihat = record { voice = hihat.init hihat.zero sampleRate; playing = unstruck };
+      bass = record { voice = AnalogBassDrum.init AnalogBassDrum.ZERO sampleRate; playing = unstruck };
+      snare = record { voice = AnalogSnareDrum.init AnalogSnareDrum.ZERO sampleRate; playing = unstruck };
+      «synthetic_snare» = record { voice = SyntheticSnareDrum.init SyntheticSnareDrum.ZERO sampleRate; playing = unstruck };
+      hihat = record { voice = hihat.init hihat.ZERO sampleRate; playing = unstruck };
       noise = 33;
     }
 

@@ -29,9 +29,8 @@ use Rattle.synthetic_snare_drum.specs.declared.SnareOutput.{SnareOutput}
 
 -- ---- init
 
--- `ZERO`
-unfoldable pub zero : SyntheticSnareDrum
-zero = record {
+unfoldable pub ZERO : SyntheticSnareDrum
+ZERO = record {
   «sample_rate_hz» = decimal 0 0;
   phase = decimal 0 0 ∷ decimal 0 0 ∷ [];
   «drum_amplitude» = decimal 0 0;
@@ -39,9 +38,9 @@ zero = record {
   fm = decimal 0 0;
   «sustain_gain» = decimal 0 0;
   «hold_counter» = 0;
-  «drum_lp» = OnePole.zero;
-  «snare_hp» = OnePole.zero;
-  «snare_lp» = Svf.zero;
+  «drum_lp» = OnePole.ZERO;
+  «snare_hp» = OnePole.ZERO;
+  «snare_lp» = Svf.ZERO;
 }
 
 unfoldable pub initialized : SyntheticSnareDrum → Float → SyntheticSnareDrum

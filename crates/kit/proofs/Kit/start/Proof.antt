@@ -12,11 +12,23 @@ use Rattle.kit.proofs.Kit.start.Statement.{statement}
 use Rattle.kit.proofs.Kit.start.Tie as tie
 
 returns : tie.Need-returns
-unfolding start AnalogBassDrum.zero AnalogSnareDrum.zero SyntheticSnareDrum.zero Hihat.zero Svf.zero OnePole.zero round ofBits
-returns c = ?
+unfolding start AnalogBassDrum.ZERO AnalogSnareDrum.ZERO SyntheticSnareDrum.ZERO Hihat.ZERO Svf.ZERO OnePole.ZERO round ofBits
+returns c =
+    let h = c .before .before in
+    let y = h .before .before in
+    let s = y .before .before in
+    let b = s .before .before in
+    rw (
+      c .unstruck .ensures,
+      h .init4 .ensures .1,
+      y .init3 .ensures .1,
+      s .init2 .ensures .1,
+      b .init .ensures .1,
+      b .before .nearest-f32 .ensures,
+    )
 
 pub start-spec : {M : Type 1} → statement M
 start-spec =
     tie.close
     (tie.spec (λ c κs. search needs) (λ c κs. search needs) (λ c κs. search needs) (λ c κs. search needs) (λ c κs. search needs)
-    (λ c κs. search needs) (λ c κs. search needs) (λ c κs. search needs) (λ c κs. search needs) (λ c κs. search needs) returns)
+    (λ c κs. search needs) returns)

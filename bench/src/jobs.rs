@@ -6,6 +6,7 @@ use mi_plaits_dsp::drums::synthetic_snare_drum::SyntheticSnareDrum;
 use mi_plaits_dsp::utils::{random, units};
 use oracle::calls::Random;
 use oracle::port;
+use oracle::port::Knobs;
 use oracle::sheet;
 use std::hint::black_box;
 
@@ -26,9 +27,7 @@ const SAMPLES: usize = 16384;
 const NOISE: u32 = 33;
 const RATE: f32 = 48000.0;
 
-/// accent, f0, a, decay, c as in a cue line, and the bass's self_fm_amount. No compiler sees them: neither side is made for these alone, and what follows
-/// from them is worked out at each block. The flags are constants on both sides.
-type Knobs = [f32; 6];
+// No compiler sees the knobs, nor the flags that both sides have: neither side is made for these alone, and what follows from them is worked out at each block.
 const BASS: Knobs = [0.8, 0.001, 0.4, 0.6, 0.5, 0.3];
 const SNARE: Knobs = [0.8, 0.004, 0.5, 0.6, 0.5, 0.0];
 const HIHAT: Knobs = [0.8, 0.01, 0.6, 0.7, 0.5, 0.0];
@@ -67,8 +66,12 @@ fn run(blocks: u32, knobs: Knobs, mut side: impl FnMut(f32, Knobs, u32, &mut [f3
     Box::new(move |out| side(black_box(RATE), black_box(knobs), black_box(blocks), out))
 }
 
-fn bass_port(rate: f32, [accent, f0, tone, decay, attack_fm, self_fm]: Knobs, blocks: u32, out: &mut [f32]) {
-    port::analog_bass_drum(rate, blocks, accent, f0, tone, decay, attack_fm, self_fm, out);
+/// Each side makes its voice, and renders block after block: the knobs are hidden anew at each.
+fn bass_port(rate: f32, knobs: Knobs, blocks: u32, out: &mut [f32]) {
+    let mut voice = port::bechullpi_analog_bass_drum_init(port::bechullpi_analog_bass_drum_zero(), rate).voice;
+    for i in 0..blocks {
+        voice = port::bass_render(voice, i == 0, black_box(knobs), out).voice;
+    }
 }
 
 fn bass_rust(rate: f32, knobs: Knobs, blocks: u32, out: &mut [f32]) {
@@ -80,8 +83,13 @@ fn bass_rust(rate: f32, knobs: Knobs, blocks: u32, out: &mut [f32]) {
     }
 }
 
-fn snare_port(rate: f32, [accent, f0, tone, decay, snappy, _]: Knobs, blocks: u32, out: &mut [f32]) {
-    port::analog_snare_drum(NOISE, rate, blocks, accent, f0, tone, decay, snappy, out);
+fn snare_port(rate: f32, knobs: Knobs, blocks: u32, out: &mut [f32]) {
+    let mut voice = port::bechullpi_analog_snare_drum_init(port::bechullpi_analog_snare_drum_zero(), rate).voice;
+    let mut noise = NOISE;
+    for i in 0..blocks {
+        let r = port::snare_render(voice, noise, i == 0, black_box(knobs), out);
+        (voice, noise) = (r.voice, r.noise);
+    }
 }
 
 fn snare_rust(rate: f32, knobs: Knobs, blocks: u32, out: &mut [f32]) {
@@ -94,8 +102,13 @@ fn snare_rust(rate: f32, knobs: Knobs, blocks: u32, out: &mut [f32]) {
     }
 }
 
-fn synthetic_snare_port(rate: f32, [accent, f0, fm_amount, decay, snappy, _]: Knobs, blocks: u32, out: &mut [f32]) {
-    port::synthetic_snare_drum(NOISE, rate, blocks, accent, f0, fm_amount, decay, snappy, out);
+fn synthetic_snare_port(rate: f32, knobs: Knobs, blocks: u32, out: &mut [f32]) {
+    let mut voice = port::bechullpi_synthetic_snare_drum_init(port::bechullpi_synthetic_snare_drum_zero(), rate).voice;
+    let mut noise = NOISE;
+    for i in 0..blocks {
+        let r = port::synthetic_snare_render(voice, noise, [black_box(false), i == 0], black_box(knobs), out);
+        (voice, noise) = (r.voice, r.noise);
+    }
 }
 
 fn synthetic_snare_rust(rate: f32, knobs: Knobs, blocks: u32, out: &mut [f32]) {
@@ -104,12 +117,18 @@ fn synthetic_snare_rust(rate: f32, knobs: Knobs, blocks: u32, out: &mut [f32]) {
     voice.init(rate);
     for i in 0..blocks {
         let [accent, f0, fm_amount, decay, snappy, _] = black_box(knobs);
-        voice.render(false, i == 0, accent, f0, fm_amount, decay, snappy, out);
+        voice.render(black_box(false), i == 0, accent, f0, fm_amount, decay, snappy, out);
     }
 }
 
-fn hihat_port(rate: f32, [accent, f0, tone, decay, noisiness, _]: Knobs, blocks: u32, out: &mut [f32]) {
-    port::hihat(NOISE, rate, blocks, accent, f0, tone, decay, noisiness, out);
+fn hihat_port(rate: f32, knobs: Knobs, blocks: u32, out: &mut [f32]) {
+    let mut voice = port::bechullpi_hihat_init(port::bechullpi_hihat_zero(), rate).voice;
+    let mut noise = NOISE;
+    for i in 0..blocks {
+        let [sustain, linear, resonance, two_stage] = black_box([false, false, true, false]);
+        let r = port::hihat_render(voice, noise, [sustain, i == 0, linear, resonance, two_stage], black_box(knobs), out);
+        (voice, noise) = (r.voice, r.noise);
+    }
 }
 
 /// The two scratch slices are made once, before anything is measured.
@@ -120,9 +139,11 @@ fn hihat_rust(block: usize) -> impl FnMut(f32, Knobs, u32, &mut [f32]) {
         let mut voice = Hihat::new();
         voice.init(rate);
         for i in 0..blocks {
-            let (noise, vca) = (NoiseType::Square, VcaType::Swing);
+            let [sustain, resonance, two_stage] = black_box([false, true, false]);
+            let (noise, vca) = (NoiseType::Square, black_box(VcaType::Swing));
             let [accent, f0, tone, decay, noisiness, _] = black_box(knobs);
-            voice.render(false, i == 0, accent, f0, tone, decay, noisiness, &mut temp_1, &mut temp_2, out, noise, vca, true, false);
+            let (temp_1, temp_2) = (&mut temp_1, &mut temp_2);
+            voice.render(sustain, i == 0, accent, f0, tone, decay, noisiness, temp_1, temp_2, out, noise, vca, resonance, two_stage);
         }
     }
 }
@@ -140,8 +161,8 @@ fn full_sheet() -> Job {
         name: "sheet of 64 cues".to_string(),
         count: SAMPLES as u64,
         places: SAMPLES,
-        port: Box::new(move |out| assert_eq!(port::sheet(black_box(&bytes), out), 0, "an accepted sheet")),
-        rust: Box::new(move |out| sheet::samples(black_box(&copy), out).expect("an accepted sheet")),
+        port: Box::new(move |out| assert_eq!(port::sheet(black_box(&bytes), out).number, 0, "an accepted sheet")),
+        rust: Box::new(move |out| assert_eq!(sheet::rendered(black_box(&copy), out)[0], 0, "an accepted sheet")),
     }
 }
 
@@ -163,7 +184,7 @@ fn ratios() -> Job {
     let mut r = Random::new(1);
     let pitches = (0..CALLS).map(|_| r.unit() * 254.0 - 127.0).collect();
     extern "C" fn port(semitones: f32) -> f32 {
-        port::semitones_to_ratio(semitones, 0.0)
+        port::bechullpi_units_semitones_to_ratio(semitones).ratio
     }
     calls("semitones_to_ratio", pitches, port, units::semitones_to_ratio)
 }
@@ -171,23 +192,24 @@ fn ratios() -> Job {
 fn roots() -> Job {
     let mut r = Random::new(1);
     let inputs = (0..CALLS).map(|_| r.unit() * 4.0).collect();
-    extern "C" fn port(x: f32) -> f32 {
-        port::sqrt(x)
-    }
-    calls("sqrt", inputs, port, f32::sqrt)
+    calls("sqrt", inputs, port::bechullpi_ieee754_sqrt, f32::sqrt)
 }
 
+/// A draw from each of many states. A chain of draws would measure the C call, which hands word and value back in one register: the next draw waits for both.
 fn draws() -> Job {
+    let mut r = Random::new(1);
+    let states: Vec<u32> = (0..CALLS).map(|_| r.word()).collect();
+    let copy = states.clone();
+    let port: extern "C" fn(u32) -> port::Draw = port::bechullpi_random_get_float;
+    let rust = |state| {
+        random::seed(state);
+        random::get_float()
+    };
     Job {
         name: "get_float".to_string(),
         count: CALLS as u64,
         places: CALLS,
-        port: Box::new(|out| {
-            port::get_float(NOISE, out);
-        }),
-        rust: Box::new(|out| {
-            random::seed(NOISE);
-            out.iter_mut().for_each(|place| *place = random::get_float());
-        }),
+        port: Box::new(move |out| out.iter_mut().zip(&states).for_each(|(place, state)| *place = black_box(port)(*state).value)),
+        rust: Box::new(move |out| out.iter_mut().zip(&copy).for_each(|(place, state)| *place = black_box(rust as fn(u32) -> f32)(*state))),
     }
 }

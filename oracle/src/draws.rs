@@ -5,8 +5,8 @@ use crate::sheets::{damage, run};
 use mi_plaits_dsp::utils::random;
 
 /// Runs `count` inputs and tells how many are answered otherwise than by the published Rust.
-pub fn compare(program: &str, count: u32, seed: u64) -> u64 {
-    let mut r = Random::new(seed);
+pub fn compare(program: &str, count: u32) -> u64 {
+    let mut r = Random::new(1);
     let (mut differ, mut accepted) = (0, 0);
     for _ in 0..count {
         let state = if r.one_in(8) { r.of(&[0, 33, u32::MAX]) } else { r.word() };

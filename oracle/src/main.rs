@@ -1,5 +1,5 @@
 //! Holds the port against the published Rust: `oracle record ROWS ANSWERS`, `oracle sheets NAMES FOLDER` or `oracle compare SIZE`.
-use oracle::{draws, numbers, replay, sheets};
+use oracle::{draws, filters, noise, numbers, replay, sheets, small, voices};
 
 fn main() {
     let args: Vec<String> = std::env::args().skip(1).collect();
@@ -14,12 +14,15 @@ fn main() {
     }
 }
 
-/// SIZE 1 takes some seconds; 1024 has every pattern of 32 bits in it. Any difference gives the exit status 1.
+/// SIZE 1 takes some seconds; 1024 has every pattern of 32 bits in it, and a million choices of what has several inputs. Any difference gives the exit status 1.
 fn compare(size: u32) {
     let differ = numbers::compare(size)
-        + replay::compare("target/bin/replay", size * 60, 1)
-        + sheets::compare("target/bin/cues", size * 100, 1)
-        + draws::compare("target/bin/draws", size * 100, 1);
+        + noise::compare(size)
+        + small::compare(size * 1000)
+        + filters::compare(size * 1000)
+        + voices::compare(size * 60)
+        + sheets::compare("target/bin/cues", size * 100)
+        + draws::compare("target/bin/draws", size * 100);
     println!("{differ} differ");
     std::process::exit(i32::from(differ != 0));
 }

@@ -1,71 +1,160 @@
-//! The compiled port, as its crate `exports` declares it. Nothing checks these declarations: they are to be read beside crates/exports/src.
+//! The compiled port. Its declarations are made from crates/console/src by `console/header --rust`; here are those that lend slices, made safe.
+#[path = "../../target/console/bechullpi.rs"]
+mod declarations;
 
-mod c {
-    unsafe extern "C" {
-        pub safe fn bechullpi_truncate_u32(x: f32) -> u32;
-        pub safe fn bechullpi_truncate_usize(x: f32) -> usize;
-        pub safe fn bechullpi_truncate_i32(x: f32) -> i32;
-        pub safe fn bechullpi_nearest_f32(n: u32) -> f32;
-        pub safe fn bechullpi_abs(x: f32) -> f32;
-        pub safe fn bechullpi_minimum_number(x: f32, y: f32) -> f32;
-        pub safe fn bechullpi_maximum_number(x: f32, y: f32) -> f32;
-        pub safe fn bechullpi_clamp(x: f32, lo: f32, hi: f32) -> f32;
-        pub safe fn bechullpi_sqrt(x: f32) -> f32;
-        pub safe fn bechullpi_semitones_to_ratio(semitones: f32, otherwise: f32) -> f32;
-        pub safe fn bechullpi_semitones_refusal(semitones: f32) -> u32;
-        pub fn bechullpi_get_float(state: u32, out: *mut f32, length: usize) -> u32;
-        pub fn bechullpi_analog_bass_drum(
-            sample_rate: f32, blocks: u32, accent: f32, f0: f32, tone: f32, decay: f32, attack_fm_amount: f32, self_fm_amount: f32, out: *mut f32, length: usize,
-        ) -> u32;
-        pub fn bechullpi_analog_snare_drum(
-            noise: u32, sample_rate: f32, blocks: u32, accent: f32, f0: f32, tone: f32, decay: f32, snappy: f32, out: *mut f32, length: usize,
-        ) -> u32;
-        pub fn bechullpi_synthetic_snare_drum(
-            noise: u32, sample_rate: f32, blocks: u32, accent: f32, f0: f32, fm_amount: f32, decay: f32, snappy: f32, out: *mut f32, length: usize,
-        ) -> u32;
-        pub fn bechullpi_hihat(
-            noise: u32, sample_rate: f32, blocks: u32, accent: f32, f0: f32, tone: f32, decay: f32, noisiness: f32, out: *mut f32, length: usize,
-        ) -> u32;
-        pub fn bechullpi_sheet(sheet: *const u8, bytes: usize, out: *mut f32, length: usize) -> u32;
+use crate::row::{Kind, LINEAR, RESONANCE, Row, SUSTAIN, TRIGGER, TWO_STAGE};
+use crate::state::words;
+use crate::voices::Played;
+pub use declarations::*;
+
+pub fn svf_process_buffer(filter: Svf, in_: &[f32], out: &mut [f32], mode: FilterMode) -> Svf {
+    unsafe { bechullpi_filter_svf_process_buffer(filter, in_.as_ptr(), in_.len(), out.as_mut_ptr(), out.len(), mode) }
+}
+
+pub fn square_noise_render(noise: SquareNoise, f0: f32, out: &mut [f32]) -> SquareNoise {
+    unsafe { bechullpi_hihat_square_noise_render(noise, f0, out.as_mut_ptr(), out.len()) }
+}
+
+pub fn sheet(sheet: &[u8], out: &mut [f32]) -> Sheet {
+    unsafe { bechullpi_sheet(sheet.as_ptr(), sheet.len(), out.as_mut_ptr(), out.len()) }
+}
+
+/// accent, f0, a, decay, c as in a cue line, and the bass's self_fm_amount.
+pub type Knobs = [f32; 6];
+
+pub fn bass_render(voice: AnalogBassDrum, trigger: bool, [accent, f0, tone, decay, attack_fm, self_fm]: Knobs, out: &mut [f32]) -> AnalogBassDrumAnswered {
+    unsafe { bechullpi_analog_bass_drum_render(voice, trigger, accent, f0, tone, decay, attack_fm, self_fm, out.as_mut_ptr(), out.len()) }
+}
+
+pub fn snare_render(voice: AnalogSnareDrum, noise: u32, trigger: bool, knobs: Knobs, out: &mut [f32]) -> AnalogSnareDrumRendered {
+    let [accent, f0, tone, decay, snappy, _] = knobs;
+    unsafe { bechullpi_analog_snare_drum_render(voice, noise, trigger, accent, f0, tone, decay, snappy, out.as_mut_ptr(), out.len()) }
+}
+
+pub fn synthetic_snare_render(
+    voice: SyntheticSnareDrum,
+    noise: u32,
+    [sustain, trigger]: [bool; 2],
+    [accent, f0, fm_amount, decay, snappy, _]: Knobs,
+    out: &mut [f32],
+) -> SyntheticSnareDrumRendered {
+    let (places, length) = (out.as_mut_ptr(), out.len());
+    unsafe { bechullpi_synthetic_snare_drum_render(voice, noise, sustain, trigger, accent, f0, fm_amount, decay, snappy, places, length) }
+}
+
+pub fn hihat_render(
+    voice: Hihat,
+    noise: u32,
+    [sustain, trigger, linear, resonance, two_stage]: [bool; 5],
+    [accent, f0, tone, decay, noisiness, _]: Knobs,
+    out: &mut [f32],
+) -> HihatRendered {
+    let (places, length) = (out.as_mut_ptr(), out.len());
+    unsafe {
+        bechullpi_hihat_render(voice, noise, sustain, trigger, accent, f0, tone, decay, noisiness, places, length, linear, resonance, two_stage)
     }
 }
 
-pub use c::bechullpi_abs as abs;
-pub use c::bechullpi_clamp as clamp;
-pub use c::bechullpi_maximum_number as maximum_number;
-pub use c::bechullpi_minimum_number as minimum_number;
-pub use c::bechullpi_nearest_f32 as nearest_f32;
-pub use c::bechullpi_semitones_refusal as semitones_refusal;
-pub use c::bechullpi_semitones_to_ratio as semitones_to_ratio;
-pub use c::bechullpi_sqrt as sqrt;
-pub use c::bechullpi_truncate_i32 as truncate_i32;
-pub use c::bechullpi_truncate_u32 as truncate_u32;
-pub use c::bechullpi_truncate_usize as truncate_usize;
-
-/// One draw for each place; the answer is the state after them.
-pub fn get_float(state: u32, out: &mut [f32]) -> u32 {
-    unsafe { c::bechullpi_get_float(state, out.as_mut_ptr(), out.len()) }
+/// The records that calls are played on.
+pub struct Records {
+    b: AnalogBassDrum,
+    s: AnalogSnareDrum,
+    y: SyntheticSnareDrum,
+    h: Hihat,
 }
 
-/// The number of the refusal, 0 for an accepted sheet.
-pub fn sheet(sheet: &[u8], out: &mut [f32]) -> u32 {
-    unsafe { c::bechullpi_sheet(sheet.as_ptr(), sheet.len(), out.as_mut_ptr(), out.len()) }
+impl Default for Records {
+    fn default() -> Self {
+        Records {
+            b: bechullpi_analog_bass_drum_zero(),
+            s: bechullpi_analog_snare_drum_zero(),
+            y: bechullpi_synthetic_snare_drum_zero(),
+            h: bechullpi_hihat_zero(),
+        }
+    }
 }
 
-// Each of the four starts its voice, renders `out` over and over, the first time with the trigger, and gives the number of the last answer.
+impl Records {
+    /// The call of a row, and what it leaves in the record, the noise state and `out`.
+    pub fn play(&mut self, row: &Row, out: &mut [f32]) -> Played {
+        let (refusal, noise) = match row.kind {
+            Kind::Zero => (self.clear(row.voice), row.noise),
+            Kind::Init => (self.init(row.voice, row.knobs[0]), row.noise),
+            Kind::Render => self.render(row, out),
+        };
+        Played { refusal, noise, state: self.state(row.voice) }
+    }
 
-pub fn analog_bass_drum(rate: f32, blocks: u32, accent: f32, f0: f32, tone: f32, decay: f32, attack_fm: f32, self_fm: f32, out: &mut [f32]) -> u32 {
-    unsafe { c::bechullpi_analog_bass_drum(rate, blocks, accent, f0, tone, decay, attack_fm, self_fm, out.as_mut_ptr(), out.len()) }
-}
+    fn clear(&mut self, voice: char) -> u32 {
+        let zero = Records::default();
+        match voice {
+            'b' => self.b = zero.b,
+            's' => self.s = zero.s,
+            'y' => self.y = zero.y,
+            _ => self.h = zero.h,
+        }
+        0
+    }
 
-pub fn analog_snare_drum(noise: u32, rate: f32, blocks: u32, accent: f32, f0: f32, tone: f32, decay: f32, snappy: f32, out: &mut [f32]) -> u32 {
-    unsafe { c::bechullpi_analog_snare_drum(noise, rate, blocks, accent, f0, tone, decay, snappy, out.as_mut_ptr(), out.len()) }
-}
+    fn init(&mut self, voice: char, rate: f32) -> u32 {
+        match voice {
+            'b' => {
+                let a = bechullpi_analog_bass_drum_init(self.b, rate);
+                self.b = a.voice;
+                a.number
+            }
+            's' => {
+                let a = bechullpi_analog_snare_drum_init(self.s, rate);
+                self.s = a.voice;
+                a.number
+            }
+            'y' => {
+                let a = bechullpi_synthetic_snare_drum_init(self.y, rate);
+                self.y = a.voice;
+                a.number
+            }
+            _ => {
+                let a = bechullpi_hihat_init(self.h, rate);
+                self.h = a.voice;
+                a.number
+            }
+        }
+    }
 
-pub fn synthetic_snare_drum(noise: u32, rate: f32, blocks: u32, accent: f32, f0: f32, fm_amount: f32, decay: f32, snappy: f32, out: &mut [f32]) -> u32 {
-    unsafe { c::bechullpi_synthetic_snare_drum(noise, rate, blocks, accent, f0, fm_amount, decay, snappy, out.as_mut_ptr(), out.len()) }
-}
+    fn render(&mut self, row: &Row, out: &mut [f32]) -> (u32, u32) {
+        let [sustain, trigger] = [row.flag(SUSTAIN), row.flag(TRIGGER)];
+        match row.voice {
+            'b' => {
+                let a = bass_render(self.b, trigger, row.knobs, out);
+                self.b = a.voice;
+                (a.number, row.noise)
+            }
+            's' => {
+                let a = snare_render(self.s, row.noise, trigger, row.knobs, out);
+                self.s = a.voice;
+                (a.number, a.noise)
+            }
+            'y' => {
+                let a = synthetic_snare_render(self.y, row.noise, [sustain, trigger], row.knobs, out);
+                self.y = a.voice;
+                (a.number, a.noise)
+            }
+            _ => {
+                let flags = [sustain, trigger, row.flag(LINEAR), row.flag(RESONANCE), row.flag(TWO_STAGE)];
+                let a = hihat_render(self.h, row.noise, flags, row.knobs, out);
+                self.h = a.voice;
+                (a.number, a.noise)
+            }
+        }
+    }
 
-pub fn hihat(noise: u32, rate: f32, blocks: u32, accent: f32, f0: f32, tone: f32, decay: f32, noisiness: f32, out: &mut [f32]) -> u32 {
-    unsafe { c::bechullpi_hihat(noise, rate, blocks, accent, f0, tone, decay, noisiness, out.as_mut_ptr(), out.len()) }
+    /// The fields in the order of their declaration.
+    fn state(&self, voice: char) -> Vec<u32> {
+        match voice {
+            'b' => words(&format!("{:?}", self.b), &[]),
+            's' => words(&format!("{:?}", self.s), &[]),
+            'y' => words(&format!("{:?}", self.y), &[]),
+            _ => words(&format!("{:?}", self.h), &[]),
+        }
+    }
 }

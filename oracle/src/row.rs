@@ -1,4 +1,4 @@
-//! A recorded call, as `replay` reads it, and its answer, as `replay` prints it.
+//! A call: a row as `replay` reads it.
 
 #[derive(Clone, Copy)]
 pub enum Kind {
@@ -24,13 +24,6 @@ pub struct Row {
     pub noise: u32,
 }
 
-pub struct Answer {
-    pub refusal: u32,
-    pub noise: u32,
-    pub samples: u32,
-    pub state: u32,
-}
-
 impl Row {
     pub fn flag(&self, flag: u8) -> bool {
         self.flags & flag != 0
@@ -49,11 +42,5 @@ impl std::fmt::Display for Row {
             write!(f, " {:08x}", crate::state::pattern(knob))?;
         }
         write!(f, " {:08x}", self.noise)
-    }
-}
-
-impl std::fmt::Display for Answer {
-    fn fmt(&self, f: &mut std::fmt::Formatter) -> std::fmt::Result {
-        write!(f, "{:02x} {:08x} {:08x} {:08x}", self.refusal, self.noise, self.samples, self.state)
     }
 }

@@ -17,10 +17,9 @@ struct Sheet {
     cues: Vec<Cue>,
 }
 
-#[derive(Debug)]
-pub struct Refused {
-    pub number: u32,
-    pub line: usize,
+struct Refused {
+    number: u32,
+    line: usize,
 }
 
 /// The text of `cues`. It reads at most 4,096 bytes.
@@ -36,11 +35,16 @@ pub fn text(input: &[u8]) -> String {
     }
 }
 
-/// A sheet into the first places of a buffer that has one for each sample.
-pub fn samples(input: &[u8], out: &mut [f32]) -> Result<(), Refused> {
-    let sheet = read(input)?;
-    render(&sheet, &mut out[..sheet.length]);
-    Ok(())
+/// A sheet into the first places of a buffer; number, line, rate, length and cues, as the library answers.
+pub fn rendered(input: &[u8], out: &mut [f32]) -> [u32; 5] {
+    match read(input) {
+        Err(refused) => [refused.number, refused.line as u32, 0, 0, 0],
+        Ok(sheet) if sheet.length > out.len() => [11, 0, 0, 0, 0],
+        Ok(sheet) => {
+            render(&sheet, &mut out[..sheet.length]);
+            [0, 0, sheet.rate, sheet.length as u32, sheet.cues.len() as u32]
+        }
+    }
 }
 
 fn read(input: &[u8]) -> Result<Sheet, Refused> {

@@ -1,27 +1,40 @@
 //! Random and damaged sheets, and what the compiled `cues` prints for them.
 use crate::calls::{Random, f0, knob};
-use crate::sheet::text;
+use crate::port;
+use crate::sheet::{rendered, text};
 use crate::state::pattern;
+use crate::tally::same_all;
 use std::io::Write;
 use std::process::{Command, Stdio};
 
-/// Runs `count` sheets and tells how many are answered otherwise than by the second reading.
-pub fn compare(program: &str, count: u32, seed: u64) -> u64 {
-    let mut r = Random::new(seed);
+/// Runs `count` sheets, by the program and by the library, and tells how many are answered otherwise than by the second reading.
+pub fn compare(program: &str, count: u32) -> u64 {
+    let mut r = Random::new(1);
     let (mut differ, mut accepted) = (0, 0);
     for _ in 0..count {
         let input = sheet(&mut r);
         let want = text(&input);
         accepted += u32::from(want.starts_with("sample"));
-        if run(program, &input) != want.as_bytes() {
+        // the program reads 4,096 bytes at most, the library all
+        let places = if r.one_in(4) { r.below(16385) } else { 16384 };
+        if run(program, &input) != want.as_bytes() || !rendered_alike(&input, places as usize) {
             differ += 1;
             if differ <= 3 {
-                println!("sheet {:?}", String::from_utf8_lossy(&input));
+                println!("sheet {:?} into {places} places", String::from_utf8_lossy(&input));
             }
         }
     }
     println!("sheets: {count}, {accepted} of them accepted: {differ} differ");
     differ
+}
+
+/// Whether the library answers a sheet as the second reading does, and leaves the same in a buffer of so many places.
+fn rendered_alike(input: &[u8], places: usize) -> bool {
+    let mut want = vec![0.25; places];
+    let mut got = want.clone();
+    let answer = port::sheet(input, &mut got);
+    let answer = [answer.number, answer.line, answer.rate, answer.length, answer.cues];
+    answer == rendered(input, &mut want) && same_all(&want, &got)
 }
 
 /// For each name in the file `names`, the name of the sheet and what `cues` must print for it.

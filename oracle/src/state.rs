@@ -5,8 +5,7 @@ pub fn pattern(x: f32) -> u32 {
     if x.is_nan() { 0x7fc0_0000 } else { x.to_bits() }
 }
 
-/// h = (h xor word) * 16777619 modulo 2^32 for each word, from 2166136261: FNV-1a over words. Two errors in a sign alone cancel in it; a block of one
-/// sample, or of an odd number of errors, shows them.
+/// What `replay` prints of words: h = (h xor word) * 16777619 modulo 2^32 for each, from 2166136261, FNV-1a over words. Two errors in a sign alone cancel in it.
 pub fn digest(words: impl IntoIterator<Item = u32>) -> u32 {
     words.into_iter().fold(2166136261, |h, word| (h ^ word).wrapping_mul(16777619))
 }

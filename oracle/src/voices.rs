@@ -1,6 +1,9 @@
-//! The four published voices, asked the questions of the scope and then played.
-use crate::row::{Answer, Kind, LINEAR, RESONANCE, Row, SUSTAIN, TRIGGER, TWO_STAGE};
-use crate::state::{digest, pattern, words};
+//! The four published voices, asked the questions of the scope and then played, and the port's held against them.
+use crate::calls::{Random, script};
+use crate::port::Records;
+use crate::row::{Kind, LINEAR, RESONANCE, Row, SUSTAIN, TRIGGER, TWO_STAGE};
+use crate::state::words;
+use crate::tally::same_all;
 use mi_plaits_dsp::drums::analog_bass_drum::AnalogBassDrum;
 use mi_plaits_dsp::drums::analog_snare_drum::AnalogSnareDrum;
 use mi_plaits_dsp::drums::hihat::{Hihat, NoiseType, VcaType};
@@ -38,6 +41,42 @@ const fn inverse(a: u32) -> u32 {
     x
 }
 
+/// What a call leaves, but for its samples: the number of the refusal, the noise state, and every field of the voice.
+#[derive(Debug, PartialEq)]
+pub struct Played {
+    pub refusal: u32,
+    pub noise: u32,
+    pub state: Vec<u32>,
+}
+
+/// Runs `scripts` random scripts a voice on both sides and tells how many calls leave something else.
+pub fn compare(scripts: u32) -> u64 {
+    ['b', 's', 'y', 'h'].into_iter().map(|voice| compare_voice(voice, scripts)).sum()
+}
+
+fn compare_voice(voice: char, scripts: u32) -> u64 {
+    let mut r = Random::new(1 + voice as u64);
+    let (mut rust, mut port) = (Voices::default(), Records::default());
+    let (mut calls, mut refused, mut samples, mut differ) = (0u64, 0u64, 0u64, 0u64);
+    for row in (0..scripts).flat_map(|_| script(&mut r, voice, 16384)) {
+        // a refused call leaves this as it is
+        let mut want = vec![0.25; row.samples as usize];
+        let mut got = want.clone();
+        let (played, ported) = (rust.play(&row, &mut want), port.play(&row, &mut got));
+        calls += 1;
+        refused += u64::from(played.refusal != 0);
+        samples += if played.refusal == 0 && matches!(row.kind, Kind::Render) { u64::from(row.samples) } else { 0 };
+        if played != ported || !same_all(&want, &got) {
+            differ += 1;
+            if differ <= 5 {
+                println!("call {row}\nRust {played:?}\nport {ported:?}");
+            }
+        }
+    }
+    println!("voice {voice}: {calls} calls, {refused} of them refused, {samples} samples: {differ} differ");
+    differ
+}
+
 /// The voices, each with the rate of its last accepted init; 0.0 in a record with every field zero.
 #[derive(Default)]
 pub struct Voices {
@@ -52,24 +91,21 @@ pub struct Voices {
 }
 
 impl Voices {
-    pub fn play(&mut self, row: &Row) -> Answer {
+    pub fn play(&mut self, row: &Row, out: &mut [f32]) -> Played {
         let refusal = self.refusal(row);
-        let mut out = vec![0.0; row.samples as usize];
-        let mut answer = Answer { refusal, noise: row.noise, samples: digest([]), state: 0 };
+        let mut noise = row.noise;
         if refusal == 0 {
             match row.kind {
                 Kind::Zero => self.clear(row.voice),
                 Kind::Init => self.init(row.voice, row.knobs[0]),
                 Kind::Render => {
                     random::seed(row.noise);
-                    self.render(row, &mut out);
-                    answer.noise = noise_state();
-                    answer.samples = digest(out.iter().map(|x| pattern(*x)));
+                    self.render(row, out);
+                    noise = noise_state();
                 }
             }
         }
-        answer.state = digest(self.state(row.voice));
-        answer
+        Played { refusal, noise, state: self.state(row.voice) }
     }
 
     /// The number of the first question that the call does not pass; 0 where it passes all.

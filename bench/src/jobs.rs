@@ -170,13 +170,25 @@ const CALLS: usize = 4096;
 
 /// A function called once for each input, through a pointer on both sides.
 fn calls(name: &str, inputs: Vec<f32>, port: extern "C" fn(f32) -> f32, rust: fn(f32) -> f32) -> Job {
+    called(name, inputs, move |x| black_box(port)(x), move |x| black_box(rust)(x))
+}
+
+fn called<T: Copy + 'static>(name: &str, inputs: Vec<T>, port: impl Fn(T) -> f32 + 'static, rust: impl Fn(T) -> f32 + 'static) -> Job {
     let copy = inputs.clone();
     Job {
         name: name.to_string(),
         count: CALLS as u64,
         places: CALLS,
-        port: Box::new(move |out| out.iter_mut().zip(&inputs).for_each(|(place, x)| *place = black_box(port)(*x))),
-        rust: Box::new(move |out| out.iter_mut().zip(&copy).for_each(|(place, x)| *place = black_box(rust)(*x))),
+        port: Box::new(move |out| each(&inputs, out, &port)),
+        rust: Box::new(move |out| each(&copy, out, &rust)),
+    }
+}
+
+/// x86-64 counts leading zeros into a register that it first reads. That register is cleared between calls, or a call might wait for what the last one left there.
+fn each<T: Copy>(inputs: &[T], out: &mut [f32], call: impl Fn(T) -> f32) {
+    for (place, x) in out.iter_mut().zip(inputs) {
+        *place = call(*x);
+        unsafe { std::arch::asm!("xor ecx, ecx", out("ecx") _) };
     }
 }
 
@@ -184,7 +196,7 @@ fn ratios() -> Job {
     let mut r = Random::new(1);
     let pitches = (0..CALLS).map(|_| r.unit() * 254.0 - 127.0).collect();
     extern "C" fn port(semitones: f32) -> f32 {
-        port::bechullpi_units_semitones_to_ratio(semitones).ratio
+        port::bechullpi_units_semitones_to_ratio(semitones, 0.0)
     }
     calls("semitones_to_ratio", pitches, port, units::semitones_to_ratio)
 }
@@ -195,21 +207,14 @@ fn roots() -> Job {
     calls("sqrt", inputs, port::bechullpi_ieee754_sqrt, f32::sqrt)
 }
 
-/// A draw from each of many states. A chain of draws would measure the C call, which hands word and value back in one register: the next draw waits for both.
+/// A draw from each of many states: in a chain, the C call would make each draw wait for the value of the one before, which comes in one register with the state.
 fn draws() -> Job {
     let mut r = Random::new(1);
     let states: Vec<u32> = (0..CALLS).map(|_| r.word()).collect();
-    let copy = states.clone();
     let port: extern "C" fn(u32) -> port::Draw = port::bechullpi_random_get_float;
-    let rust = |state| {
+    let rust: fn(u32) -> f32 = |state| {
         random::seed(state);
         random::get_float()
     };
-    Job {
-        name: "get_float".to_string(),
-        count: CALLS as u64,
-        places: CALLS,
-        port: Box::new(move |out| out.iter_mut().zip(&states).for_each(|(place, state)| *place = black_box(port)(*state).value)),
-        rust: Box::new(move |out| out.iter_mut().zip(&copy).for_each(|(place, state)| *place = black_box(rust as fn(u32) -> f32)(*state))),
-    }
+    called("get_float", states, move |state| black_box(port)(state).value, move |state| black_box(rust)(state))
 }

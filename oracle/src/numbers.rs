@@ -30,13 +30,13 @@ fn of_one_pattern(count: u64) -> u64 {
 /// the infinity among them; of the others it is only asked whether the place that the Rust would read is past the end.
 fn same_ratio(semitones: f32) -> bool {
     let rust = || catch_unwind(|| units::semitones_to_ratio(semitones));
-    let port = port::bechullpi_units_semitones_to_ratio(semitones);
-    match port.number {
-        0 => rust().is_ok_and(|ratio| same(port.ratio, ratio)),
+    let port = |otherwise| port::bechullpi_units_semitones_to_ratio(semitones, otherwise);
+    match port::bechullpi_units_semitones_refusal(semitones) {
+        0 => rust().is_ok_and(|ratio| same(port(0.0), ratio)),
         6 => {
             let run = matches!(semitones.to_bits() % 64, 0 | 63);
             let panics = if run { rust().is_err() } else { (semitones + 128.0) as usize >= 256 };
-            panics && same(port.ratio, 0.0)
+            panics && same(port(0.5), 0.5)
         }
         _ => false,
     }

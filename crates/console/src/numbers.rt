@@ -5,7 +5,6 @@ ghost use lib.Ieee as Ieee;
 ghost use lib.Ieee.{binary32};
 ghost use Rattle.ieee754.specs.Operations as Operations;
 ghost use Rattle.ieee754.specs.Root as Root;
-ghost use Rattle.ieee754.specs.Single.{decimal};
 ghost use Rattle.random.specs.Random as Random;
 ghost use Rattle.units.specs.Units as Units;
 ghost use Rattle.parameter_interpolator.specs.ParameterInterpolator as Interpolator;
@@ -13,13 +12,6 @@ ghost use Rattle.utils.specs.Utils as Utils;
 use parameter_interpolator::ParameterInterpolator;
 use random::Draw;
 use units::Ratio;
-
-// The number of a pitch's refusal, 0 for one that has a ratio, and the ratio, 0.0 where it is refused.
-#[repr(C)]
-pub struct SemitonesToRatio {
-    pub number: u32,
-    pub ratio: f32,
-}
 
 // Toward zero, held at the ends of the target; a NaN gives 0. So are the next two.
 #[no_mangle]
@@ -106,18 +98,22 @@ pub extern "C" fn bechullpi_random_get_float(state: u32) -> Draw
     random::get_float(state)
 }
 
-// The ratio of a pitch in semitones.
+// The ratio of a pitch in semitones, or `otherwise` where the pitch is refused.
 #[no_mangle]
-pub extern "C" fn bechullpi_units_semitones_to_ratio(semitones: f32) -> SemitonesToRatio
-    ensures number { λ r. ⌜ r .number ≡ Units.number (Units.semitonesToRatio semitones) ⌝ }
-    ensures ratio { λ r. ⌜ r .ratio ≡ Units.unwrapOr (Units.semitonesToRatio semitones) (decimal 0 0) ⌝ }
+pub extern "C" fn bechullpi_units_semitones_to_ratio(semitones: f32, otherwise: f32) -> f32
+    ensures { λ r. ⌜ r ≡ Units.unwrapOr (Units.semitonesToRatio semitones) otherwise ⌝ }
+{
+    units::semitones_to_ratio(semitones).unwrap_or(otherwise)
+}
+
+// 6 where a pitch is refused, else 0.
+#[no_mangle]
+pub extern "C" fn bechullpi_units_semitones_refusal(semitones: f32) -> u32
+    ensures { λ r. ⌜ r ≡ Units.number (Units.semitonesToRatio semitones) ⌝ }
 {
     match units::semitones_to_ratio(semitones) {
-        Ratio::Of(ratio) => SemitonesToRatio { number: 0, ratio },
-        Ratio::Refused(refusal) => SemitonesToRatio {
-            number: refusal.number(),
-            ratio: 0.0,
-        },
+        Ratio::Of(_) => 0,
+        Ratio::Refused(refusal) => refusal.number(),
     }
 }
 

@@ -8,13 +8,15 @@
 // console/example.c is a sound loop to begin from. What each function gives is defined in the specs/ of the crate in its name.
 //
 // RECORDS
-// A record is a value. A call takes one and answers the one after it; keep that for the next call. Nothing is kept anywhere else:
-// there is no global state, no allocation, no input or output, no lock. One thread at a time owns a record; calls with different
-// records may run at once. A voice starts from its zero record, then `init`, then `render`, block after block.
+// A record is a value. A call takes one and answers the one after it; keep that for the next call. Nothing is kept anywhere else: there
+// is no global state, no allocation, no input or output, no lock. One thread at a time owns a record; calls with different records may
+// run at once. A voice starts from its zero record, then `init`, then `render`, block after block. A record may hold any patterns, but a
+// bool is 0 or 1.
 //
 // ANSWERS
-// A call that is not fit answers a number other than 0, and then the record, the noise state and the buffer are as they were. Look
-// at it. The questions are asked in the order of this list, but 10 before 8; a NaN is no number, and -0.0 is 0.0.
+// A call that is not fit answers a number other than 0, and then the record, the noise state and the buffer are as they were. Ask for it
+// after every call. The first question that is not passed gives the number: a voice asks 1 to 5 in this order, a sheet 7, then of each
+// cue 10, 8, 9, 3, 4, 5, and 11 at the end. A NaN is no number, and -0.0 is 0.0.
 //      1  the sample rate is not a number from 16000.0 to 96000.0
 //      2  the block has more than 16,384 samples
 //      3  f0, in cycles a sample, is not a number from 2^-20 to 0.5
@@ -26,30 +28,29 @@
 //      9  sheet: a cue does not start below the length and after the cue before it
 //     10  sheet: there are more than 64 cues
 //     11  sheet: the buffer has fewer places than the sheet has samples
-// What answers no number takes any value.
+// A function that answers no number takes any value.
 //
 // SAMPLES ARE NOT LIMITED TO 1.0. A synthetic snare reached 110 in a sheet that is accepted. Limit before the converter.
 //
 // NOISE
-// A voice that draws noise takes the state of the generator and answers the next one. Hand it on from call to call. Any state will
-// do; sheets start from 33.
+// A voice that draws noise takes the state of the generator and answers the next one. Hand it on from call to call. Any state will do;
+// sheets start from 33.
 //
 // POINTERS
-// A buffer crosses as a pointer to its first place and the number of its places. The pointer is not null, also where the number is
-// 0. Every place holds some value before the call. `out` has no place in common with the other buffer of the call.
+// A buffer crosses as a pointer to its first place and the number of its places. The pointer is not null, also where the number is 0.
+// Every place holds some value before the call. `out` has no place in common with the other buffer of the call.
 //
 // FLOATING-POINT ENVIRONMENT
-// Rounding to nearest, and flush-to-zero and denormals-are-zero OFF, as every C program starts. Audio code likes to turn both on, and
-// so does linking with gcc's -ffast-math: turn them off around the calls. With them on, the accent with the pattern 80000001, which
-// is below zero, is accepted and rendered; with rounding upward every sheet tried had other samples.
+// Rounding to nearest, FLUSH-TO-ZERO AND DENORMALS-ARE-ZERO OFF, exceptions masked: the default of C. Audio code likes to turn the two on,
+// and so does linking with gcc's -ffast-math; turn them off around the calls. With them on, the accent 80000001, a number below zero, is
+// accepted and rendered; with rounding upward every sheet tried had other samples.
 // A NaN is one value here: which of its patterns comes back is the machine's choice.
 //
 // STACK
-// What a call was seen to use of its caller's stack, measured by console/stack.c on memory painted before the call (gcc 12, glibc
-// 2.36; dynamic binding of memcpy in it):
-//     numbers and filters            STACKn
-//     a voice's zero, init, render   STACKv
-//     bechullpi_sheet                STACKs
+// A call takes at most BECHULLPI_STACK_.. bytes, as below, of its caller's stack, arguments and answer included. console/stack.c measures
+// on memory that is painted before each call: some 120 bytes for a number or a filter, 1,100 for a voice, 69,200 for a sheet (gcc 12, the
+// library as console/build makes it). It fails where a figure is passed. What is above that is room for the dynamic linker: binding memcpy
+// on its first call took 2,600 bytes more.
 #ifndef BECHULLPI_H
 #define BECHULLPI_H
 
@@ -68,11 +69,15 @@ extern "C" {
 
 BECHULLPI_STATIC_ASSERT(sizeof(float) == 4 && sizeof(bool) == 1 && sizeof(size_t) == 8, "not x86-64");
 
-// -----------------------------------------------------------------------------------------------------------
+#define BECHULLPI_STACK_NUMBERS 1024
+#define BECHULLPI_STACK_VOICES 8192
+#define BECHULLPI_STACK_SHEET 81920
+
+// -------------------------------------------------------------------------------------------------------------------------------
 // The choices that cross as bools, so that every value means something.
 
-// A filter's output: low-pass, or high-pass where `high_or_normalized` is set; with `band_pass` the
-// band-pass, or the normalized one.
+// A filter's output: low-pass, or high-pass where `high_or_normalized` is set; with `band_pass` the band-pass, or the normalized
+// one.
 typedef struct bechullpi_filter_mode {
     bool band_pass;
     bool high_or_normalized;
@@ -99,9 +104,9 @@ BECHULLPI_STATIC_ASSERT(sizeof(bechullpi_frequency_approximation) == 2, "bechull
 #define BECHULLPI_SWING_VCA false
 #define BECHULLPI_LINEAR_VCA true
 
-// -----------------------------------------------------------------------------------------------------------
-// Conversions and operations of IEEE 754-2019 and Rust's `clamp`; draws of the noise generator; ratios of
-// pitches; a sliding value; the small functions of utils.
+// -------------------------------------------------------------------------------------------------------------------------------
+// Conversions and operations of IEEE 754-2019 and Rust's `clamp`; draws of the noise generator; ratios of pitches; a sliding
+// value; the small functions of utils.
 
 // The number of a pitch's refusal, 0 for one that has a ratio, and the ratio, 0.0 where it is refused.
 typedef struct bechullpi_semitones_to_ratio {
@@ -157,14 +162,10 @@ bechullpi_draw bechullpi_random_get_float(uint32_t state);
 bechullpi_semitones_to_ratio bechullpi_units_semitones_to_ratio(float semitones);
 
 // A value that reaches another in `size` equal steps.
-bechullpi_parameter_interpolator bechullpi_parameter_interpolator_new(
-    float value, float new_value, uint32_t size
-);
+bechullpi_parameter_interpolator bechullpi_parameter_interpolator_new(float value, float new_value, uint32_t size);
 
 // One step.
-bechullpi_parameter_interpolator bechullpi_parameter_interpolator_next(
-    bechullpi_parameter_interpolator interpolator
-);
+bechullpi_parameter_interpolator bechullpi_parameter_interpolator_next(bechullpi_parameter_interpolator interpolator);
 
 float bechullpi_utils_one_pole(float out, float in, float coefficient);
 
@@ -178,7 +179,7 @@ float bechullpi_utils_soft_clip(float x);
 
 float bechullpi_utils_sqrt(float x);
 
-// -----------------------------------------------------------------------------------------------------------
+// -------------------------------------------------------------------------------------------------------------------------------
 // The filters: OnePole and Svf. `Svf::process_mut` does not cross: it is proved equal to `process`.
 
 typedef struct bechullpi_one_pole {
@@ -234,9 +235,7 @@ bechullpi_one_pole bechullpi_filter_one_pole_set_f(
 );
 
 // A band-pass mode gives 0.0.
-bechullpi_one_pole_output bechullpi_filter_one_pole_process(
-    bechullpi_one_pole filter, float in, bechullpi_filter_mode mode
-);
+bechullpi_one_pole_output bechullpi_filter_one_pole_process(bechullpi_one_pole filter, float in, bechullpi_filter_mode mode);
 
 // Every field zero, for `init` to overwrite.
 bechullpi_svf bechullpi_filter_svf_zero(void);
@@ -267,11 +266,10 @@ bechullpi_svf_dual_output bechullpi_filter_svf_process_dual(
 
 // As many samples as the shorter slice has; the rest of `out` keeps what it held.
 bechullpi_svf bechullpi_filter_svf_process_buffer(
-    bechullpi_svf filter, const float *in, size_t in_length, float *out, size_t out_length,
-    bechullpi_filter_mode mode
+    bechullpi_svf filter, const float *in, size_t in_length, float *out, size_t out_length, bechullpi_filter_mode mode
 );
 
-// -----------------------------------------------------------------------------------------------------------
+// -------------------------------------------------------------------------------------------------------------------------------
 // The 808 bass drum.
 
 typedef struct bechullpi_analog_bass_drum {
@@ -304,17 +302,15 @@ BECHULLPI_STATIC_ASSERT(sizeof(bechullpi_analog_bass_drum_answered) == 80, "bech
 bechullpi_analog_bass_drum bechullpi_analog_bass_drum_zero(void);
 
 // Refused by 1.
-bechullpi_analog_bass_drum_answered bechullpi_analog_bass_drum_init(
-    bechullpi_analog_bass_drum voice, float sample_rate_hz
-);
+bechullpi_analog_bass_drum_answered bechullpi_analog_bass_drum_init(bechullpi_analog_bass_drum voice, float sample_rate_hz);
 
 // Refused by 2, 3, 4 and 5.
 bechullpi_analog_bass_drum_answered bechullpi_analog_bass_drum_render(
-    bechullpi_analog_bass_drum voice, bool trigger, float accent, float f0, float tone, float decay,
-    float attack_fm_amount, float self_fm_amount, float *out, size_t out_length
+    bechullpi_analog_bass_drum voice, bool trigger, float accent, float f0, float tone, float decay, float attack_fm_amount,
+    float self_fm_amount, float *out, size_t out_length
 );
 
-// -----------------------------------------------------------------------------------------------------------
+// -------------------------------------------------------------------------------------------------------------------------------
 // The 808 snare drum.
 
 typedef struct bechullpi_analog_snare_drum {
@@ -349,17 +345,15 @@ BECHULLPI_STATIC_ASSERT(sizeof(bechullpi_analog_snare_drum_rendered) == 156, "be
 bechullpi_analog_snare_drum bechullpi_analog_snare_drum_zero(void);
 
 // Refused by 1.
-bechullpi_analog_snare_drum_answered bechullpi_analog_snare_drum_init(
-    bechullpi_analog_snare_drum voice, float sample_rate_hz
-);
+bechullpi_analog_snare_drum_answered bechullpi_analog_snare_drum_init(bechullpi_analog_snare_drum voice, float sample_rate_hz);
 
 // Refused by 2, 3, 4 and 5.
 bechullpi_analog_snare_drum_rendered bechullpi_analog_snare_drum_render(
-    bechullpi_analog_snare_drum voice, uint32_t noise, bool trigger, float accent, float f0, float tone,
-    float decay, float snappy, float *out, size_t out_length
+    bechullpi_analog_snare_drum voice, uint32_t noise, bool trigger, float accent, float f0, float tone, float decay,
+    float snappy, float *out, size_t out_length
 );
 
-// -----------------------------------------------------------------------------------------------------------
+// -------------------------------------------------------------------------------------------------------------------------------
 // The synthetic snare drum.
 
 typedef struct bechullpi_synthetic_snare_drum {
@@ -401,11 +395,11 @@ bechullpi_synthetic_snare_drum_answered bechullpi_synthetic_snare_drum_init(
 
 // Refused by 1, of the rate that the voice stores, 2, 3, 4 and 5.
 bechullpi_synthetic_snare_drum_rendered bechullpi_synthetic_snare_drum_render(
-    bechullpi_synthetic_snare_drum voice, uint32_t noise, bool sustain, bool trigger, float accent, float f0,
-    float fm_amount, float decay, float snappy, float *out, size_t out_length
+    bechullpi_synthetic_snare_drum voice, uint32_t noise, bool sustain, bool trigger, float accent, float f0, float fm_amount,
+    float decay, float snappy, float *out, size_t out_length
 );
 
-// -----------------------------------------------------------------------------------------------------------
+// -------------------------------------------------------------------------------------------------------------------------------
 // The 808 hi-hat, and the square noise by itself.
 
 typedef struct bechullpi_square_noise {
@@ -446,12 +440,10 @@ bechullpi_hihat bechullpi_hihat_zero(void);
 // Refused by 1.
 bechullpi_hihat_answered bechullpi_hihat_init(bechullpi_hihat voice, float sample_rate);
 
-// Refused by 1, of the rate that the voice stores, 2, 3, 4 and 5. The VCA is the swing one unless `linear` is
-// set.
+// Refused by 1, of the rate that the voice stores, 2, 3, 4 and 5. The VCA is the swing one unless `linear` is set.
 bechullpi_hihat_rendered bechullpi_hihat_render(
-    bechullpi_hihat voice, uint32_t noise, bool sustain, bool trigger, float accent, float f0, float tone,
-    float decay, float noisiness, float *out, size_t out_length, bool linear, bool resonance,
-    bool two_stage_envelope
+    bechullpi_hihat voice, uint32_t noise, bool sustain, bool trigger, float accent, float f0, float tone, float decay,
+    float noisiness, float *out, size_t out_length, bool linear, bool resonance, bool two_stage_envelope
 );
 
 bechullpi_square_noise bechullpi_hihat_square_noise_zero(void);
@@ -459,15 +451,12 @@ bechullpi_square_noise bechullpi_hihat_square_noise_zero(void);
 bechullpi_square_noise bechullpi_hihat_square_noise_init(bechullpi_square_noise noise);
 
 // Any f0 and any length: nothing is refused.
-bechullpi_square_noise bechullpi_hihat_square_noise_render(
-    bechullpi_square_noise noise, float f0, float *out, size_t out_length
-);
+bechullpi_square_noise bechullpi_hihat_square_noise_render(bechullpi_square_noise noise, float f0, float *out, size_t out_length);
 
-// -----------------------------------------------------------------------------------------------------------
+// -------------------------------------------------------------------------------------------------------------------------------
 // Cue sheets.
 
-// The answer to a sheet. An accepted one has number 0 and line 0; of a refused one rate, length and cues are
-// 0.
+// The answer to a sheet. An accepted one has number 0 and line 0; of a refused one rate, length and cues are 0.
 typedef struct bechullpi_sheet_answered {
     uint32_t number;
     uint32_t line;
@@ -477,11 +466,9 @@ typedef struct bechullpi_sheet_answered {
 } bechullpi_sheet_answered;
 BECHULLPI_STATIC_ASSERT(sizeof(bechullpi_sheet_answered) == 20, "bechullpi_sheet_answered");
 
-// A sheet rendered into the first places of a buffer. The others stay as they were, and so do all of them
-// where the sheet is refused.
-bechullpi_sheet_answered bechullpi_sheet(
-    const uint8_t *sheet, size_t sheet_length, float *out, size_t out_length
-);
+// A sheet rendered into the first places of a buffer. The others stay as they were, and so do all of them where the sheet is
+// refused.
+bechullpi_sheet_answered bechullpi_sheet(const uint8_t *sheet, size_t sheet_length, float *out, size_t out_length);
 
 #ifdef __cplusplus
 }

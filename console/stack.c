@@ -1,6 +1,6 @@
-// How much stack the calls of bechullpi.h use: each one is made on a stack of its own, painted before it, and the bytes from the deepest that lost its paint are
-// counted. What the caller puts there counts too: the arguments, and the place for the answer. Prints the most for each kind of call, and ends with status 1
-// where that is above the figure in the header.
+// How much stack the calls of bechullpi.h use: each one is made on a stack of its own, painted before it, and the bytes from the deepest that lost its
+// paint are counted. What the caller puts there counts too: the arguments, and the place for the answer. Prints the most for each kind of call, and ends
+// with status 1 where that is above the figure in the header.
 #define _XOPEN_SOURCE 700 // for ucontext.h
 #include "bechullpi.h"
 
@@ -92,12 +92,13 @@ VOICES(CALLER)
 SHEET(CALLER)
 
 #define ENTRY(name, arguments) call_##name,
-static void (*const numbers_and_filters[])(void) = {NUMBERS_AND_FILTERS(ENTRY)};
-static void (*const voices[])(void) = {VOICES(ENTRY)};
-static void (*const sheets[])(void) = {SHEET(ENTRY)};
+typedef void (*caller)(void);
+static const caller numbers_and_filters[] = {NUMBERS_AND_FILTERS(ENTRY)};
+static const caller voices[] = {VOICES(ENTRY)};
+static const caller sheets[] = {SHEET(ENTRY)};
 
 // The bytes that a call used of a stack of this paint.
-static size_t used(void (*call)(void), unsigned char paint)
+static size_t used(caller call, unsigned char paint)
 {
     size_t untouched = 0;
     memset(stack, paint, BYTES);
@@ -113,7 +114,7 @@ static size_t used(void (*call)(void), unsigned char paint)
 }
 
 // The most that any of the calls used, with any flags. A byte may have been given the paint's own value, so there are two paints.
-static size_t most(void (*const calls[])(void), size_t count)
+static size_t most(const caller *calls, size_t count)
 {
     size_t most = 0;
     for (unsigned k = 0; k < count * FLAGS * 2; k++) {
@@ -138,7 +139,7 @@ static void write_sheet(void)
     sheet_bytes = (size_t)at;
 }
 
-static bool is_within(const char *kind, size_t bytes, size_t limit)
+static bool is_within(size_t limit, size_t bytes, const char *kind)
 {
     printf("%s: %zu bytes, %s the %zu of bechullpi.h\n", kind, bytes, bytes <= limit ? "within" : "ABOVE", limit);
     return bytes <= limit;
@@ -155,8 +156,8 @@ int main(void)
         puts("the sheet is not accepted");
         return 1;
     }
-    bool numbers = is_within("a number or a filter", most(numbers_and_filters, sizeof numbers_and_filters / sizeof *numbers_and_filters), BECHULLPI_STACK_NUMBERS);
-    bool voice = is_within("a voice", most(voices, sizeof voices / sizeof *voices), BECHULLPI_STACK_VOICES);
-    bool whole = is_within("a sheet", most(sheets, 1), BECHULLPI_STACK_SHEET);
+    bool numbers = is_within(BECHULLPI_STACK_NUMBERS, most(numbers_and_filters, sizeof numbers_and_filters / sizeof(caller)), "a number or a filter");
+    bool voice = is_within(BECHULLPI_STACK_VOICES, most(voices, sizeof voices / sizeof(caller)), "a voice");
+    bool whole = is_within(BECHULLPI_STACK_SHEET, most(sheets, sizeof sheets / sizeof(caller)), "a sheet");
     return numbers && voice && whole ? 0 : 1;
 }

@@ -28,7 +28,7 @@
 //      9  sheet: a cue does not start below the length and after the cue before it
 //     10  sheet: there are more than 64 cues
 //     11  sheet: the buffer has fewer places than the sheet has samples
-// A function that answers no number takes any value.
+// What answers no such number takes any value.
 //
 // SAMPLES ARE NOT LIMITED TO 1.0. A synthetic snare reached 110 in a sheet that is accepted. Limit before the converter.
 //
@@ -108,13 +108,6 @@ BECHULLPI_STATIC_ASSERT(sizeof(bechullpi_frequency_approximation) == 2, "bechull
 // Conversions and operations of IEEE 754-2019 and Rust's `clamp`; draws of the noise generator; ratios of pitches; a sliding
 // value; the small functions of utils.
 
-// The number of a pitch's refusal, 0 for one that has a ratio, and the ratio, 0.0 where it is refused.
-typedef struct bechullpi_semitones_to_ratio {
-    uint32_t number;
-    float ratio;
-} bechullpi_semitones_to_ratio;
-BECHULLPI_STATIC_ASSERT(sizeof(bechullpi_semitones_to_ratio) == 8, "bechullpi_semitones_to_ratio");
-
 // A float drawn. The word drawn with it is the next state.
 typedef struct bechullpi_draw {
     uint32_t word;
@@ -158,8 +151,11 @@ uint32_t bechullpi_random_get_word(uint32_t state);
 // A value from 0.0 to 1.0, both included, and the word drawn, which is the next state.
 bechullpi_draw bechullpi_random_get_float(uint32_t state);
 
-// The ratio of a pitch in semitones.
-bechullpi_semitones_to_ratio bechullpi_units_semitones_to_ratio(float semitones);
+// The ratio of a pitch in semitones, or `otherwise` where the pitch is refused.
+float bechullpi_units_semitones_to_ratio(float semitones, float otherwise);
+
+// 6 where a pitch is refused, else 0.
+uint32_t bechullpi_units_semitones_refusal(float semitones);
 
 // A value that reaches another in `size` equal steps.
 bechullpi_parameter_interpolator bechullpi_parameter_interpolator_new(float value, float new_value, uint32_t size);

@@ -39,7 +39,8 @@ static size_t sheet_bytes;
     CALL(ieee754_sqrt, (2.0f)) \
     CALL(random_get_word, (33)) \
     CALL(random_get_float, (33)) \
-    CALL(units_semitones_to_ratio, (7.0f)) \
+    CALL(units_semitones_to_ratio, (7.0f, 0.0f)) \
+    CALL(units_semitones_refusal, (7.0f)) \
     CALL(parameter_interpolator_new, (0.0f, 1.0f, 64)) \
     CALL(parameter_interpolator_next, (interpolator)) \
     CALL(utils_one_pole, (0.5f, 1.0f, 0.1f)) \

@@ -15,7 +15,7 @@ pub fn square_noise_render(noise: SquareNoise, f0: f32, out: &mut [f32]) -> Squa
     unsafe { bechullpi_hihat_square_noise_render(noise, f0, out.as_mut_ptr(), out.len()) }
 }
 
-pub fn sheet(sheet: &[u8], out: &mut [f32]) -> Sheet {
+pub fn sheet(sheet: &[u8], out: &mut [f32]) -> SheetAnswered {
     unsafe { bechullpi_sheet(sheet.as_ptr(), sheet.len(), out.as_mut_ptr(), out.len()) }
 }
 

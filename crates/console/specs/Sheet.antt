@@ -1,7 +1,7 @@
 -- The answer to a sheet as one record. Definitions only.
 use Rattle.cue_sheet.specs.Sheet.{SheetAnswer, accepted, refusedAt}
-use Rattle.console.specs.declared.sheet.Sheet.{Sheet}
+use Rattle.console.specs.declared.sheet.SheetAnswered.{SheetAnswered}
 
-abbrev pub sheet : SheetAnswer → Sheet
+abbrev pub sheet : SheetAnswer → SheetAnswered
 sheet (accepted rate length cues) = record { number = 0; line = 0; rate = rate; length = length; cues = cues }
 sheet (refusedAt number line) = record { number = number; line = line; rate = 0; length = 0; cues = 0 }

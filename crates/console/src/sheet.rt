@@ -6,7 +6,7 @@ use cue_sheet::Judgment;
 
 // The answer to a sheet. An accepted one has number 0 and line 0; of a refused one rate, length and cues are 0.
 #[repr(C)]
-pub struct Sheet {
+pub struct SheetAnswered {
     pub number: u32,
     pub line: u32,
     pub rate: u32,
@@ -16,19 +16,19 @@ pub struct Sheet {
 
 // A sheet rendered into the first places of a buffer. The others stay as they were, and so do all of them where the sheet is refused.
 #[no_mangle]
-pub extern "C" fn bechullpi_sheet(sheet: &[u8], out: &mut [f32]) -> Sheet
+pub extern "C" fn bechullpi_sheet(sheet: &[u8], out: &mut [f32]) -> SheetAnswered
     ensures answer { λ r. ⌜ r ≡ spec.sheet (answer (now (sheet .entry)) (now (out .entry))) ⌝ }
     ensures block { λ _. ⌜ now (out .exit) ≡ render (now (sheet .entry)) (now (out .entry)) ⌝ }
 {
     match cue_render::render(sheet, out) {
-        Judgment::Accepted { rate, length, cues } => Sheet {
+        Judgment::Accepted { rate, length, cues } => SheetAnswered {
             number: 0,
             line: 0,
             rate,
             length,
             cues,
         },
-        Judgment::Refused { refusal, line } => Sheet {
+        Judgment::Refused { refusal, line } => SheetAnswered {
             number: refusal.number(),
             line,
             rate: 0,

@@ -1,21 +1,22 @@
 -- Bounds by whole numbers: `Bound a b x` says that x is finite and lies from -a to b. Negation, products, sums and differences keep such bounds, so what is made
 -- of knobs from 0 to 1 is bounded too. Assumes nothing.
 use borrow.Author.Tests.{ltb-false, le-ltb, ne-eqb}
-use mathlib.Core.Path.{_≡_, refl, sym, ap, _∙_}
+use mathlib.Core.Path.{_≡_, refl, ap}
 use mathlib.Core.Bool.{Bool, true, false, cond, _&&_, _||_, true≢false}
-use Prim.Native.Nat.{ℕ, zero, suc, _+_, _-_, _*_, _^_, _≤_, _<_, zero-le}
+use Prim.Native.Nat.{ℕ, _+_, _-_, _*_, _^_, _≤_, _<_, zero-le}
 use native.Mathlib.Nat.{mul-pos, mul-le-mul, mul-le-mul-right, mul-lt-mul-of-pos-right, le-of-mul-le-mul-right}
 use native.Mathlib.Decide.{decLe}
 use native.Mathlib.Omega.{arith}
 use lib.IntN.{ℤ}
 use lib.Dec.{T, ltb, eqb, eqb→eq, not-T, lit<, lit≤}
-use lib.Ieee.{Float, nan, inf, fin, Format, binary32, binary64, prec, emax, low, up, down, odd, units, round, sum, unlike, add, sub, neg, mul, le}
+use lib.Ieee.{Float, nan, inf, fin, Format, binary32, binary64, prec, up, down, round, sum, unlike, add, sub, neg, mul, le}
 use lib.Ieee.Bits.{is-false}
 use lib.Ieee.Exact.{HasValue}
-use lib.Ieee.Fits.{round-is, and-l, down-pos}
-use lib.Ieee.Order.{kept, drop, round-mono}
+use lib.Ieee.Fits.{and-l, down-pos}
+use lib.Ieee.Order.{round-mono}
 use lib.Ieee.Back.{round-whole}
 use Rattle.ieee754.specs.Single.{decimal}
+use Rattle.ieee754.proofs.Signs.{round-neg}
 
 abbrev pub Bound : ℕ → ℕ → Float → Type 0
 Bound a b nan = ⊥
@@ -71,23 +72,6 @@ neg-bound a b nan h = h
 neg-bound a b (inf s) h = h
 neg-bound a b (fin true m e) h = h
 neg-bound a b (fin false m e) h = h
-
--- a negative fraction rounds as its magnitude does
-odd-neg : (d q k l : ℕ) → odd d true q k l ≡ neg (odd d false q k l)
-unfolding odd neg
-odd-neg d zero k l = refl
-odd-neg d (suc q) k l = refl
-
-units-neg : (f : Format) (q k : ℕ) → units f true q k ≡ neg (units f false q k)
-unfolding units neg
-units-neg f q k = go (ltb (q * 2 ^ k) (2 ^ (low f + suc (emax f))))
-  where
-    go : (b : Bool) → cond b (odd (suc (prec f)) true q k (low f)) (inf true) ≡ neg (cond b (odd (suc (prec f)) false q k (low f)) (inf false))
-    go true = odd-neg (suc (prec f)) q k (low f)
-    go false = refl
-
-round-neg : (f : Format) (n c : ℕ) → round f true n c ≡ neg (round f false n c)
-round-neg f n c = round-is f true n c ∙ units-neg f (kept (prec f) (n * 2 ^ low f) c) (drop (prec f) (n * 2 ^ low f) c) ∙ ap neg (sym (round-is f false n c))
 
 zero-is : (f : Format) → round f false 0 1 ≡ decimal 0 0
 unfolding round

@@ -8,7 +8,7 @@ use lib.Ieee.{Float, nan, inf, fin, Format, fits, up, down, isNan, eq, toBits}
 use lib.Ieee.Fits.{and-l}
 use Rattle.ieee754.specs.Operations.{isSignMinus}
 use Rattle.ieee754.proofs.Fields.{one-value}
-use Rattle.ieee754.proofs.Units.{same-bits}
+use Rattle.ieee754.proofs.SmallestUnits.{same-bits}
 
 -- they are one infinity, or two equal fractions
 by-equal : (P : Float → Float → Type 0) → ((s : Bool) → P (inf s) (inf s))

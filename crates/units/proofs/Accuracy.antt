@@ -17,7 +17,7 @@ use Rattle.units.specs.Units.{pitchOf, ratio, semitonesToRatio, number}
 use Rattle.units.specs.Accuracy.{floor256, Accurate, InTables, Promised}
 use Rattle.units.specs.declared.Ratio.{Ratio}
 use Rattle.units.specs.declared.Ratio.the-variants.{Of, Refused}
-use Rattle.units.proofs.Places.{integral, step, Places, places}
+use Rattle.units.proofs.PitchPlaces.{integral, step, Places, places}
 use Rattle.units.proofs.Product.{close-at}
 
 -- ---- what is below 256 is not 256 or more

@@ -19,7 +19,7 @@ use Rattle.units.specs.Tables.{«LUT_PITCH_RATIO_HIGH», «LUT_PITCH_RAT
 use Rattle.units.proofs.Powers.{joined-least, joined-most}
 use Rattle.units.proofs.Rounding.{kept-near}
 use Rattle.units.proofs.Entries.{Entry, high-entry, low-entry}
-use Rattle.units.proofs.Values.{product}
+use Rattle.units.proofs.Fractions.{product}
 
 -- ---- q / 2 ^ 57, rounded
 -- from units of 2 ^ -149 to units of 2 ^ -34

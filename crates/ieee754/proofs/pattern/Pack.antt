@@ -15,7 +15,7 @@ use lib.Ieee.Exact.{units-val}
 use lib.Ieee.Fits.{two}
 use Rattle.ieee754.proofs.Formats.{twice-hid}
 use Rattle.ieee754.proofs.Numbers.{size-shifted}
-use Rattle.ieee754.proofs.Units.{units-fit, pattern, toBits-of-value}
+use Rattle.ieee754.proofs.SmallestUnits.{units-fit, pattern, toBits-of-value}
 
 pattern-full : (f : Format) (q k : ℕ) → hid f ≤ q → q < 2 ^ prec f → pattern f false (q * 2 ^ k) ≡ k * hid f + q
 pattern-full f q k lo hi =

@@ -19,7 +19,7 @@ use Rattle.ieee754.specs.Root.{sqrt, total, RootBelowMiddle, RootAboveMi
 use Rattle.ieee754.proofs.Fields.{one-value}
 use Rattle.ieee754.proofs.Formats.{twice-hid, emax-two}
 use Rattle.ieee754.proofs.Numbers.{sq-lt-back, nearest-by}
-use Rattle.ieee754.proofs.Units.{InUnits, amount, in-units, units-fit, same-bits}
+use Rattle.ieee754.proofs.SmallestUnits.{InUnits, amount, in-units, units-fit, same-bits}
 use Rattle.ieee754.proofs.root.Cut.{Cut, half², rounded, rootOf-cut, cut-of}
 use Rattle.ieee754.proofs.root.Operand.{of-value}
 

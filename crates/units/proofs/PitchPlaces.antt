@@ -22,7 +22,7 @@ use Rattle.ieee754.specs.Single.{_⊖_, _⊗_, decimal}
 use Rattle.ieee754.proofs.Whole.{unsigned-of-value, of-minus}
 use Rattle.ieee754.proofs.Bounds.{minus-zero}
 use Rattle.units.specs.Accuracy.{floor256}
-use Rattle.units.proofs.Values.{less-whole, product, exact, minus-less, minus-times}
+use Rattle.units.proofs.Fractions.{less-whole, product, exact, minus-less, minus-times}
 
 -- ---- i and j, as the Rust works them out
 abbrev pub integral : Float → ℕ

@@ -1,4 +1,4 @@
--- `random::get_float` meets its contract. Assumes nothing.
+-- The definition, of the word drawn; the literal agrees by computing.
 use borrow.Author.Needs.{needs}
 use lib.Ieee.{round, ofBits}
 use Rattle.random.specs.Random.{getFloat}

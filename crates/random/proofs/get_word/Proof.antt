@@ -1,4 +1,4 @@
--- `random::get_word` meets its contract. Assumes nothing.
+-- A product and then a sum, each cut to 32 bits, is the sum cut once.
 use borrow.Author.Needs.{needs}
 use Rattle.random.specs.Random.{getWord}
 use Rattle.random.proofs.get_word.Statement.{statement}

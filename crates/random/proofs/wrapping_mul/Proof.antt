@@ -1,4 +1,4 @@
--- `random::wrapping_mul` meets its contract: the product of two numbers of 32 bits fits 64. Assumes nothing.
+-- The product of two numbers of 32 bits fits 64.
 use borrow.Author.Needs.{needs}
 use Rattle.random.proofs.Product.{product-fits}
 use Rattle.random.proofs.wrapping_mul.Statement.{statement}

@@ -1,4 +1,4 @@
--- `units::semitones_to_ratio` meets its contract. Assumes nothing.
+-- The laws of `Accuracy`, for each of the two answers; both places are below 256.
 use lib.Ieee.{ofBits, round}
 use borrow.Author.Needs.{needs}
 use Rattle.units.proofs.Accuracy.{refused, integral-small, looked-up}

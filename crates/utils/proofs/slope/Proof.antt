@@ -1,4 +1,4 @@
--- `utils::slope` meets its contract. Assumes nothing.
+-- Each branch is an arm of the definition; the literals agree by computing.
 use lib.Ieee.{round, ofBits}
 use Rattle.utils.specs.Utils.{slope}
 use Rattle.utils.proofs.slope.Statement.{statement}

@@ -1,4 +1,4 @@
--- `utils::soft_limit` meets its contract. Assumes nothing.
+-- The literals agree by computing.
 use mathlib.Core.Path.{refl}
 use lib.Ieee.{round, ofBits}
 use Rattle.utils.specs.Utils.{softLimit}

@@ -1,4 +1,4 @@
--- `filter::OnePole::process` meets its contract. Assumes nothing.
+-- In each arm the mode is known, and the definition computes.
 use borrow.Author.Needs.{needs}
 use lib.Ieee.{round, ofBits}
 use Rattle.filter.specs.OnePole.{process, output}

@@ -1,4 +1,4 @@
--- `filter::OnePole::reset` meets its contract. Assumes nothing.
+-- The literals agree by computing.
 use mathlib.Core.Path.{refl}
 use lib.Ieee.{round, ofBits}
 use Rattle.filter.specs.OnePole.{reset}

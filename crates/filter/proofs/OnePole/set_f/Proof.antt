@@ -1,4 +1,4 @@
--- `filter::OnePole::set_f` meets its contract. Assumes nothing.
+-- The definition, of what `tan` gives; the literals agree by computing.
 use borrow.Author.Needs.{needs}
 use lib.Ieee.{round, ofBits}
 use Rattle.filter.specs.OnePole.{setF}

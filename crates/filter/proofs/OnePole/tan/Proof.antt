@@ -1,4 +1,4 @@
--- `filter::OnePole::tan` meets its contract. Assumes nothing.
+-- In each arm the approximation is known; the products of constants, which the compiler folds, agree by computing.
 use borrow.Author.Needs.{needs}
 use lib.Ieee.{round, ofBits, mul}
 use Rattle.filter.specs.OnePole.{tan}

@@ -1,4 +1,4 @@
--- `filter::Passed::output` meets its contract. Assumes nothing.
+-- In each arm the mode is known, and the definition computes.
 use borrow.Author.Needs.{needs}
 use Rattle.filter.specs.Svf.{output}
 use Rattle.filter.proofs.Passed.output.Statement.{statement}

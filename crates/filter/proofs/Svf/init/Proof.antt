@@ -1,4 +1,4 @@
--- `filter::Svf::init` meets its contract. Assumes nothing.
+-- The definition, of what the two calls give; the literals agree by computing.
 use borrow.Author.Needs.{needs}
 use lib.Ieee.{round, ofBits}
 use Rattle.filter.specs.Svf.{init}

@@ -1,4 +1,4 @@
--- `filter::Svf::passed` meets its contract. Assumes nothing.
+-- Each line of the code is a line of the definition.
 use mathlib.Core.Path.{refl}
 use Rattle.filter.specs.Svf.{passed}
 use Rattle.filter.proofs.Svf.passed.Statement.{statement}

@@ -1,4 +1,4 @@
--- `filter::Svf::process_buffer` meets its contract, by the loop's laws. Assumes nothing.
+-- The loop's law of `Buffer`, turn by turn; `process` is its stage.
 use borrow.Author.Needs.{needs}
 use Prim.Native.Nat.{_-_, _<_, _≤_, min}
 use native.Mathlib.Omega.{arith}
@@ -19,10 +19,10 @@ loop-holds c = begin-filtering _ _ _ _
 
 loop-again : tie.Need-loop-again Inv-loop μ-loop
 loop-again c =
-    let l = c .before .before .before .before in
-    let a = l .before .before .before .before .args in
-    let h : l .loop .i < min (length (now (a .in-))) (length (now (a .out))) = omega arith in
-    rw (c .before .process .ensures) (turn-filtering _ _ _ _ _ _ _ (l .loop .inv) h)
+    let at-loop = c .before .before .before .before in
+    let a = at-loop .before .before .before .before .args in
+    let h : at-loop .loop .i < min (length (now (a .in-))) (length (now (a .out))) = omega arith in
+    rw (c .before .process .ensures) (turn-filtering _ _ _ _ _ _ _ (at-loop .loop .inv) h)
 
 same-length : tie.Need-same-length Inv-loop μ-loop
 same-length c = c .before .loop .inv .long

@@ -1,4 +1,4 @@
--- `filter::Svf::process_dual` meets its contract. Assumes nothing.
+-- The definition, of what `passed` gives and `output` chooses twice.
 use borrow.Author.Needs.{needs}
 use Rattle.filter.specs.Svf.{processDual}
 use Rattle.filter.proofs.Svf.process_dual.Statement.{statement}
@@ -6,7 +6,7 @@ use Rattle.filter.proofs.Svf.process_dual.Tie as tie
 
 returns : tie.Need-returns
 unfolding processDual
-returns c = rw (c .output2 .ensures, c .before .output .ensures, c .before .before .before .passed .ensures)
+returns c = cc
 
 pub process-dual-spec : {M : Type 1} → statement M
 process-dual-spec = tie.close (tie.spec (λ c κs. search needs) (λ c κs. search needs) (λ c κs. search needs) returns)

@@ -1,4 +1,4 @@
--- `filter::Svf::set_g_r` meets its contract. Assumes nothing.
+-- The definition, of what `set_g_r_h` gives; the literals agree by computing.
 use borrow.Author.Needs.{needs}
 use lib.Ieee.{round, ofBits}
 use Rattle.filter.specs.Svf.{setGR}

@@ -1,4 +1,4 @@
--- `ieee754::nearest_f32` meets its contract. Assumes nothing.
+-- n with its leading digit at bit 31, without its last byte, is n rounded (`Rounding`).
 use borrow.Author.Needs.{needs}
 use mathlib.Core.Path.{_≡_, sym}
 use Prim.Native.Nat.{ℕ, suc, _+_, _-_, _*_, _/_, _%_, _^_, _≤_, _<_, compare}

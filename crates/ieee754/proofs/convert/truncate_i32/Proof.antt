@@ -1,4 +1,4 @@
--- `ieee754::truncate_i32` meets its contract: the whole part of x or of -x, held at an end of the range. Assumes nothing.
+-- The whole part of x or of -x, held at an end of the range.
 use borrow.Author.Needs.{needs}
 use mathlib.Core.Path.{_≡_, sym, _∙_}
 use Prim.Native.Nat.{ℕ, zero, suc, _-_, _^_, _<_, min}

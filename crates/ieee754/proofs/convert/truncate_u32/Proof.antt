@@ -1,4 +1,4 @@
--- `ieee754::truncate_u32` meets its contract: the whole part of x at 64 digits, held at 32. Assumes nothing.
+-- The whole part of x at 64 digits, held at 32.
 use borrow.Author.Needs.{needs}
 use native.Mathlib.Omega.{arith}
 use lib.Dec.{lit≤}

@@ -1,4 +1,4 @@
--- `ieee754::truncate_u64` meets its contract. Assumes nothing.
+-- The laws of `Whole`: below 1, past the width, and the significand moved to its place.
 use borrow.Author.Needs.{needs}
 use borrow.Author.Tests.{le-leb}
 use mathlib.Core.Path.{_≡_, _∙_}

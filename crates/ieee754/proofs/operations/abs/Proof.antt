@@ -1,4 +1,4 @@
--- `ieee754::abs` meets its contract. Assumes nothing.
+-- A mask without the highest digit clears the sign (`Fields`).
 use lib.Bits.{and-mask}
 use lib.Ieee.{binary32}
 use Rattle.ieee754.specs.Operations.{abs}

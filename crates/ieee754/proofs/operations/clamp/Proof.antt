@@ -1,4 +1,4 @@
--- `ieee754::clamp` meets its contract. Assumes nothing.
+-- After the first test y is the larger of x and lo, as in the definition; the second is the definition's.
 use mathlib.Core.Path.{_≡_}
 use mathlib.Core.Bool.{cond}
 use mathlib.Core.Logic.{⊎-elim}

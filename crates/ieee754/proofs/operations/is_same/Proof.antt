@@ -1,4 +1,4 @@
--- `ieee754::is_same` meets its contract: a pattern that fits is read back as the value. Assumes nothing.
+-- A pattern that fits is read back as the value.
 use borrow.Author.Needs.{needs}
 use borrow.Author.Tests.{eqb-true, eq-eqb}
 use mathlib.Core.Path.{ap}

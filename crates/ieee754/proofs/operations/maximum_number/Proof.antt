@@ -1,4 +1,4 @@
--- `ieee754::maximum_number` meets its contract. Assumes nothing.
+-- The tests, one by one, in the definition's order.
 use borrow.Author.Needs.{needs}
 use Rattle.ieee754.proofs.operations.Choice.{maximum-by}
 use Rattle.ieee754.proofs.operations.maximum_number.Statement.{statement}

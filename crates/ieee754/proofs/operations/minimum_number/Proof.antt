@@ -1,4 +1,4 @@
--- `ieee754::minimum_number` meets its contract. Assumes nothing.
+-- The tests, one by one, in the definition's order.
 use borrow.Author.Needs.{needs}
 use Rattle.ieee754.proofs.operations.Choice.{minimum-by}
 use Rattle.ieee754.proofs.operations.minimum_number.Statement.{statement}

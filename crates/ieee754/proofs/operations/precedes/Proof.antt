@@ -1,4 +1,4 @@
--- `ieee754::precedes` meets its contract. Assumes nothing.
+-- The definition's tests; of equal numbers -0 alone has the larger pattern.
 use borrow.Author.Tests.{not-true}
 use lib.Ieee.{binary32, eq, ne}
 use Rattle.ieee754.specs.Operations.{precedes}

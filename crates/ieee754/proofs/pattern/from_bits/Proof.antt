@@ -1,4 +1,4 @@
--- `ieee754::from_bits` meets its contract. Assumes nothing.
+-- What passes the test is a number's pattern; what does not is read as a NaN, and so is 0 / 0.
 use lib.Ieee.{div, ofBits}
 use Rattle.ieee754.proofs.NotANumber.{made, nan-read}
 use borrow.Author.Needs.{needs}

@@ -1,4 +1,4 @@
--- `ieee754::is_number` meets its contract. Assumes nothing.
+-- The sign aside, a number's pattern is at most that of the infinity.
 use Rattle.ieee754.proofs.NotANumber.{number-bits}
 use Rattle.ieee754.proofs.pattern.is_number.Statement.{statement}
 use Rattle.ieee754.proofs.pattern.is_number.Tie as tie

@@ -1,4 +1,4 @@
--- `ieee754::packed` meets its contract. Assumes nothing.
+-- The law of `Pack`: nothing is shifted out, and the pattern is no NaN's.
 use borrow.Author.Needs.{needs}
 use mathlib.Core.Path.{_≡_}
 use Prim.Native.Nat.{_+_, _*_, _%_, _^_, _<_}

@@ -1,4 +1,4 @@
--- `ieee754::significand` meets its contract. Assumes nothing.
+-- A mask is a remainder, and the leading digit lies above what it leaves.
 use native.Mathlib.Nat.{mod-lt}
 use lib.Bits.{and-mask, or-shifted-r}
 use lib.Pow.{pow-pos}

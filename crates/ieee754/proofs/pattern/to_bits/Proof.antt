@@ -1,4 +1,4 @@
--- `ieee754::to_bits` meets its contract. Assumes nothing.
+-- What differs from itself is the NaN.
 use lib.Ieee.{toBits}
 use Rattle.ieee754.proofs.Fields.{is-nan, no-nan}
 use borrow.Author.Needs.{needs}

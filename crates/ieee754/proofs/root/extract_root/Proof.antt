@@ -1,4 +1,4 @@
--- `ieee754::extract_root` meets its contract. At the loop's head `root` is not below the root without its fraction. Assumes nothing.
+-- Heron's rule: at the loop's head `root` is not below the root without its fraction.
 use borrow.Author.Needs.{needs}
 use mathlib.Core.Path.{_≡_}
 use Prim.Native.Nat.{ℕ, suc, _+_, _-_, _*_, _/_, _^_, _<_}

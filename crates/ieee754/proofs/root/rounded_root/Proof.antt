@@ -1,4 +1,4 @@
--- `ieee754::rounded_root` meets its contract. The radicand has 47 or 48 digits, so its root has 24. Assumes nothing.
+-- The radicand has 47 or 48 digits, so its root has 24; the laws of `Cut` round it.
 use borrow.Author.Needs.{needs}
 use mathlib.Core.Path.{_≡_, sym, ap, _∙_}
 use Prim.Native.Nat.{ℕ, _+_, _*_, _/_, _%_, _^_, _≤_, _<_}

@@ -1,4 +1,4 @@
--- `ieee754::sqrt` meets its contract. Assumes nothing.
+-- The operands of `Operand`, one by one; a value above 0 is a significand at its place, a subnormal one moved up to it.
 use borrow.Author.Needs.{needs}
 use borrow.Author.Tests.{le-leb}
 use mathlib.Core.Path.{_≡_, sym, ap, _∙_}

@@ -1,10 +1,10 @@
--- `parameter_interpolator::ParameterInterpolator::new` meets its contract. Assumes nothing.
+-- The definition, of the size as a float.
 use borrow.Author.Needs.{needs}
 use Rattle.parameter_interpolator.proofs.ParameterInterpolator.new.Statement.{statement}
 use Rattle.parameter_interpolator.proofs.ParameterInterpolator.new.Tie as tie
 
 returns : tie.Need-returns
-returns c = rw (c .nearest-f32 .ensures)
+returns c = cc
 
 pub new-spec : {M : Type 1} → statement M
 new-spec = tie.close (tie.spec (λ c κs. search needs) returns)

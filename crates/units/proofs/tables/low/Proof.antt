@@ -1,4 +1,4 @@
--- `units::tables::low` meets its contract: its code has the entries of the definition's table. Assumes nothing.
+-- The code is that of `Lookup` for the definition's table, entry by entry.
 use mathlib.Core.Path.{_≡_, refl, sym, subst}
 use mir.Syntax.{Fn}
 use lib.Ieee.{round, toBits, fits}

@@ -7,10 +7,10 @@ use Rattle.ieee754.proofs.pattern.to_bits.Tie as tie
 
 returns : tie.Need-returns
 unfolding toBits
-returns c = rw (is-nan (c .before .args .x) (c .if1 .taken))
+returns c = rw (is-nan _ (c .if1 .taken))
 
 float-to-bits-result : tie.Need-float-to-bits-result
-float-to-bits-result c = no-nan (c .before .args .x) (c .if1 .left)
+float-to-bits-result c = no-nan _ (c .if1 .left)
 
 pub to-bits-spec : {M : Type 1} → statement M
 to-bits-spec = tie.close (tie.spec returns float-to-bits-result (λ c. search needs))

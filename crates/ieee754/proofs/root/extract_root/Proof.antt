@@ -30,9 +30,6 @@ better-quotient n h = div-lt-iff-lt-mul {k = better n} (omega arith) .1 (omega a
 add-better : tie.Need-add-better Inv-loop μ-loop
 add-better c = omega (arith, guess-quotient (c .args .n) (c .pre))
 
-div-root : tie.Need-div-root Inv-loop μ-loop
-div-root c = omega arith
-
 add-root : tie.Need-add-root Inv-loop μ-loop
 add-root c = omega (arith, guess-quotient (c .args .n) (c .pre), better-quotient (c .args .n) (c .pre))
 
@@ -48,9 +45,6 @@ mul-loop c = let h = c .loop .inv .0 in omega (arith, mul-le-mul h h)
 some : (c : tie.In-loop Inv-loop μ-loop) → 0 < c .before .loop .root
 some c = sq-lt-back {a = 0} (omega (arith, c .loop-test .taken))
 
-sub-root : tie.Need-sub-root Inv-loop μ-loop
-sub-root c = some c
-
 loop-less : tie.Need-loop-less Inv-loop μ-loop
 loop-less c = omega (arith, some c)
 
@@ -62,11 +56,8 @@ loop-again c =
 mul-t5 : tie.Need-mul-t5 Inv-loop μ-loop
 mul-t5 c = let h = c .before .loop .inv .0 in omega (arith, mul-le-mul h h)
 
-returns : tie.Need-returns Inv-loop μ-loop
-returns c = omega arith
-
 pub extract-root-spec : {M : Type 1} → statement M
 extract-root-spec =
     tie.close
-    (tie.spec Inv-loop μ-loop (λ c. search needs) (λ c. search needs) add-better div-root add-root loop-holds mul-loop sub-root loop-less loop-again
-    mul-t5 (λ c. search needs) returns)
+    (tie.spec Inv-loop μ-loop (λ c. search needs) (λ c. search needs) add-better (λ c. search needs) add-root loop-holds mul-loop some loop-less loop-again
+    mul-t5 (λ c. search needs) (λ c. search needs))

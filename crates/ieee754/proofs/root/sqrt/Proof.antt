@@ -32,9 +32,6 @@ returns-2 : tie.Need-returns-2
 unfolding ofBits
 returns-2 c = of-zero binary32 _ (c .if2 .taken)
 
-float-to-bits-bits : tie.Need-float-to-bits-bits
-float-to-bits-bits c = number (c .before)
-
 returns-3 : tie.Need-returns-3
 unfolding ofBits div
 returns-3 c =
@@ -96,15 +93,6 @@ module _ (c : tie.Then5) where
   subnormal : sqrt binary32 (x (c .before)) ≡ rootOf binary32 b
   subnormal = of-value binary32 _ b (some (c .before)) (rw (c .if5 .taken, mul-one, mod-eq-of-lt small) at (units-of (c .before)))
 
-sub-rounded-root : tie.Need-sub-rounded-root
-sub-rounded-root c = omega (arith, lead c .1)
-
-sub-rounded-root-2 : tie.Need-sub-rounded-root-2
-sub-rounded-root-2 c = omega (arith, zeros c)
-
-shl-rounded-root : tie.Need-shl-rounded-root
-shl-rounded-root c = omega (arith, lead c .1)
-
 rounded-root-requires : tie.Need-rounded-root-requires
 rounded-root-requires c κs = rw (whole c) (omega (arith, moved c))
 
@@ -131,5 +119,5 @@ returns-6 c =
 pub sqrt-spec : {M : Type 1} → statement M
 sqrt-spec =
     tie.close
-    (tie.spec returns returns-2 float-to-bits-bits returns-3 returns-4 sub-rounded-root sub-rounded-root-2 shl-rounded-root rounded-root-requires
-    returns-5 (λ c. search needs) (λ c κs. search needs) rounded-root-requires-2 returns-6)
+    (tie.spec returns returns-2 (λ c. number (c .before)) returns-3 returns-4 (λ c. omega (arith, lead c .1)) (λ c. omega (arith, zeros c))
+    (λ c. omega (arith, lead c .1)) rounded-root-requires returns-5 (λ c. search needs) (λ c κs. search needs) rounded-root-requires-2 returns-6)

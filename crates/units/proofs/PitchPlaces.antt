@@ -10,15 +10,15 @@ use native.Mathlib.Nat.{mod-lt, mod-le, mod-one, mod-eq-sub-div-mul, div-add-mod
 use native.Mathlib.Omega.{arith}
 use lib.Dec.{T, ltb, leb, eqb, ltb→lt, leb→le, eqb→eq, lit<, lit≤}
 use lib.IntN.{ℤ, pos, negsuc}
-use lib.Pow.{pow-add, pow-mono}
+use lib.Pow.{pow-mono}
 use lib.Ieee.{Float, nan, inf, fin, binary32, up, down, round, sub, mul, ofInt, toUnsigned, le, fits}
 use lib.Ieee.Fits.{up-pos, down-pos, and-l, and-r}
-use lib.Ieee.Digits.{back}
 use lib.Ieee.Exact.{HasValue}
 use lib.Ieee.Back.{round-whole}
 use lib.Ieee.Order.{le-of-values}
 use Rattle.ieee754.specs.Operations.{isSignMinus}
 use Rattle.ieee754.specs.Single.{_⊖_, _⊗_, decimal}
+use Rattle.ieee754.proofs.Numbers.{pow-split}
 use Rattle.ieee754.proofs.Whole.{unsigned-of-value, of-minus}
 use Rattle.ieee754.proofs.Bounds.{minus-zero}
 use Rattle.units.specs.Accuracy.{floor256}
@@ -51,16 +51,10 @@ zeros p i j n z =
       floored = λ h. rw (j, i) (z h);
     }
 
-minus-integral : (p : Float) → isSignMinus p ≡ true → integral p ≡ 0
-minus-integral p h = sym (of-minus 64 p h)
-
-minus-step : (p : Float) → isSignMinus p ≡ true → step p ≡ 0
-minus-step p h =
-    rw (minus-integral p h)
-    (sym (of-minus 64 ((p ⊖ ofInt binary32 (pos 0)) ⊗ decimal 256 0) (minus-times (p ⊖ ofInt binary32 (pos 0)) (minus-less p h))))
-
-minus-place : (p : Float) → isSignMinus p ≡ true → place p ≡ 0
-minus-place p h = sym (of-minus 64 (p ⊗ decimal 256 0) (minus-times p h))
+minus : (p : Float) → isSignMinus p ≡ true → (T (le (decimal 0 0) p) → 0 ≡ floor256 p) → Places p
+minus p h =
+    let i : integral p ≡ 0 = sym (of-minus 64 p h) in
+    zeros p i (rw i (sym (of-minus 64 _ (minus-times _ (minus-less p h))))) (sym (of-minus 64 _ (minus-times p h)))
 
 -- ---- m * 2 ^ e of single precision: m has at most 24 digits, and the denominator of 2 ^ e divides 2 ^ 149
 record Parts (m : ℕ) (e : ℤ) : Type 0 where
@@ -85,7 +79,7 @@ parts m (pos k) t = record { digits = small m (pos k) t .0; j = 149; j-le = lit�
 parts m (negsuc k) t =
     let s = small m (negsuc k) t in
     let l : suc k ≤ 149 = omega (arith, lt-of-not-le (λ (g : 150 ≤ suc k). not-le-of-lt (lt-of-lt-of-le (lit< {m = 2 ^ 149} {n = 2 ^ 150} tt) (pow-mono g)) (s .1))) in
-    record { digits = s .0; j = 149 - suc k; j-le = omega arith; goes = sym (pow-add 2 (149 - suc k) (suc k)) ∙ ap (λ (z : ℕ). 2 ^ z) (back 149 (suc k) l) }
+    record { digits = s .0; j = 149 - suc k; j-le = omega arith; goes = sym (pow-split (suc k) 149 l) }
 
 -- ---- without a minus sign: m * 2 ^ e is `whole` and `rest` / down e
 abbrev whole : ℕ → ℤ → ℕ
@@ -178,11 +172,9 @@ below m e h =
 pub places : (p : Float) → T (fits binary32 p) → le (decimal 256 0) p ≡ false → Places p
 unfolding le sub mul round toUnsigned isSignMinus
 places nan t h = zeros nan refl refl refl (λ z. absurd z)
-places (inf true) t h = zeros (inf true) (minus-integral (inf true) refl) (minus-step (inf true) refl) (minus-place (inf true) refl) (λ z. absurd z)
+places (inf true) t h = minus (inf true) refl (λ z. absurd z)
 places (inf false) t h = absurd (true≢false h)
-places (fin true m e) t h =
-    zeros (fin true m e) (minus-integral (fin true m e) refl) (minus-step (fin true m e) refl) (minus-place (fin true m e) refl)
-    (λ z. sym (ap (λ (k : ℕ). 256 * k / down e) (minus-zero m e z) ∙ zero-div (down e)))
+places (fin true m e) t h = minus (fin true m e) refl (λ z. sym (ap (λ (k : ℕ). 256 * k / down e) (minus-zero m e z) ∙ zero-div (down e)))
 places (fin false m e) t h =
     let b = below m e h in
     record {

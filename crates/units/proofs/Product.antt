@@ -3,18 +3,18 @@
 use mathlib.Core.Path.{_≡_, sym, ap, _∙_}
 use mathlib.Core.Bool.{false}
 use Prim.Native.Nat.{ℕ, _+_, _-_, _*_, _/_, _^_, _≤_, _<_}
-use native.Mathlib.Nat.{le-trans, le-of-lt, lt-of-lt-of-le, lt-of-le-of-lt, lt-of-not-le, not-le-of-lt, mul-assoc, mul-right-comm, mul-pos}
+use native.Mathlib.Nat.{le-trans, le-of-lt, lt-of-lt-of-le, lt-of-le-of-lt, mul-assoc, mul-right-comm, mul-pos}
 use native.Mathlib.Nat.{mul-le-mul, mul-le-mul-left, mul-le-mul-right, mul-lt-mul-of-pos-right, le-of-mul-le-mul-right, le-div-iff-mul-le, eq-of-mul-eq-mul-right}
 use native.Mathlib.Omega.{arith}
 use lib.Dec.{lit<, lit≤}
 use lib.ListN.{getD}
-use lib.Pow.{pow-add, pow-pos, pow-mono, shl-lt}
+use lib.Pow.{pow-add, pow-pos, shl-lt}
 use lib.Ieee.{Float, nan, inf, fin, binary32, up, down, size, round}
-use lib.Ieee.Digits.{size-lt, back}
 use lib.Ieee.Exact.{HasValue}
 use lib.Ieee.Order.{drop, kept}
 use lib.Ieee.Scale.{round-val}
 use Rattle.ieee754.specs.Single.{_⊗_}
+use Rattle.ieee754.proofs.Numbers.{pow-split, size-gt}
 use Rattle.units.specs.Tables.{«LUT_PITCH_RATIO_HIGH», «LUT_PITCH_RATIO_LOW»}
 use Rattle.units.proofs.Powers.{joined-least, joined-most}
 use Rattle.units.proofs.Rounding.{kept-near}
@@ -40,9 +40,7 @@ place q = drop 24 (q * 2 ^ 149) (2 ^ 57)
 
 module _ (q : ℕ) (Q : 2 ^ 46 ≤ q) (Q' : q < 2 ^ 69) where
   long : 139 ≤ size (q * 2 ^ 149 / 2 ^ 57)
-  long =
-      lt-of-not-le (λ (g : size (q * 2 ^ 149 / 2 ^ 57) ≤ 138).
-      not-le-of-lt (lt-of-lt-of-le (size-lt (q * 2 ^ 149 / 2 ^ 57)) (pow-mono g)) (le-div-iff-mul-le {k = 2 ^ 57} (pow-pos 57) .1 (mul-le-mul-right (2 ^ 149) Q)))
+  long = size-gt 138 _ (le-div-iff-mul-le {k = 2 ^ 57} (pow-pos 57) .1 (mul-le-mul-right (2 ^ 149) Q))
 
   -- the result in units of 2 ^ -34
   units : ℕ
@@ -51,8 +49,7 @@ module _ (q : ℕ) (Q : 2 ^ 46 ≤ q) (Q' : q < 2 ^ 69) where
   units-are : digits q * 2 ^ place q ≡ units * 2 ^ 115
   unfolding units
   units-are =
-      ap (λ (z : ℕ). digits q * 2 ^ z) (sym (back (place q) 115 (less (size (q * 2 ^ 149 / 2 ^ 57)) long)))
-      ∙ ap (λ (z : ℕ). digits q * z) (pow-add 2 (place q - 115) 115)
+      ap (λ (z : ℕ). digits q * z) (pow-split 115 (place q) (less (size (q * 2 ^ 149 / 2 ^ 57)) long))
       ∙ sym (mul-assoc (digits q) (2 ^ (place q - 115)) (2 ^ 115))
     where
       less : (z : ℕ) → 139 ≤ z → 115 ≤ z - 24

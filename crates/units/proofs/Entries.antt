@@ -76,10 +76,9 @@ abbrev highNear : ℕ → ℕ → Bool
 highNear i a = leb (16777215 ^ 12 * 2 ^ (280 + i)) ((16777216 * a) ^ 12) && leb ((16777216 * a) ^ 12) (16777217 ^ 12 * 2 ^ (280 + i))
 
 raised : (i : ℕ) → (2 ^ (280 + i)) ^ 256 ≡ 2 ^ (256 * i + 71680)
-raised i = sym (pow-mul 2 (280 + i) 256) ∙ ap (λ (z : ℕ). 2 ^ z) (sum i)
-  where
-    sum : (i : ℕ) → (280 + i) * 256 ≡ 256 * i + 71680
-    sum i = omega arith
+raised i =
+    let e : (280 + i) * 256 ≡ 256 * i + 71680 = omega arith in
+    sym (pow-mul 2 (280 + i) 256) ∙ ap (λ (z : ℕ). 2 ^ z) e
 
 high-near : (i a : ℕ) → T (highNear i a) → Near (2 ^ (256 * i + 71680)) a
 high-near i a t =

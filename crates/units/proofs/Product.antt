@@ -49,11 +49,7 @@ module _ (q : ℕ) (Q : 2 ^ 46 ≤ q) (Q' : q < 2 ^ 69) where
   units-are : digits q * 2 ^ place q ≡ units * 2 ^ 115
   unfolding units
   units-are =
-      ap (λ (z : ℕ). digits q * z) (pow-split 115 (place q) (less (size (q * 2 ^ 149 / 2 ^ 57)) long))
-      ∙ sym (mul-assoc (digits q) (2 ^ (place q - 115)) (2 ^ 115))
-    where
-      less : (z : ℕ) → 139 ≤ z → 115 ≤ z - 24
-      less z h = omega arith
+      ap (λ (z : ℕ). digits q * z) (pow-split 115 (place q) (omega (arith, long))) ∙ sym (mul-assoc (digits q) (2 ^ (place q - 115)) (2 ^ 115))
 
   near : (16777215 * q ≤ 16777216 * (units * 2 ^ 23)) × (16777216 * (units * 2 ^ 23) ≤ 16777217 * q)
   near =
@@ -70,10 +66,9 @@ module _ (q : ℕ) (Q : 2 ^ 46 ≤ q) (Q' : q < 2 ^ 69) where
       more n y h = omega arith
 
   fits : digits q * 2 ^ place q < 2 ^ 277
-  fits = rw units-are (lt-of-lt-of-le (shl-lt 70 115 (few units (near .1))) (lit≤ tt))
-    where
-      few : (R : ℕ) → 16777216 * (R * 2 ^ 23) ≤ 16777217 * q → R < 2 ^ 70
-      few R h = omega arith
+  fits =
+      let few : units < 2 ^ 70 = omega (arith, near .1) in
+      rw units-are (lt-of-lt-of-le (shl-lt 70 115 few) (lit≤ tt))
 
   value : HasValue (round binary32 false q (2 ^ 57)) false units (2 ^ 34)
   value = coarser (round binary32 false q (2 ^ 57)) units (rw units-are at (round-val binary32 q (2 ^ 57) fits))
@@ -86,10 +81,9 @@ pub record Close (i j : ℕ) (r : Float) : Type 0 where
   pub most : (4194304 * R) ^ 3072 ≤ 4194305 ^ 3072 * 2 ^ (256 * i + j + 71680)
 
 exponent : (i j : ℕ) → 2 ^ (256 * i + 71680) * 2 ^ j ≡ 2 ^ (256 * i + j + 71680)
-exponent i j = sym (pow-add 2 (256 * i + 71680) j) ∙ ap (λ (z : ℕ). 2 ^ z) (sum i j)
-  where
-    sum : (i j : ℕ) → 256 * i + 71680 + j ≡ 256 * i + j + 71680
-    sum i j = omega arith
+exponent i j =
+    let e : 256 * i + 71680 + j ≡ 256 * i + j + 71680 = omega arith in
+    sym (pow-add 2 (256 * i + 71680) j) ∙ ap (λ (z : ℕ). 2 ^ z) e
 
 module _ (i j : ℕ) (x y : Float) (a : Entry 34 45 (2 ^ (256 * i + 71680)) x) (b : Entry 23 24 ((2 ^ 23) ^ 3072 * 2 ^ j) y) where
   abbrev h : ℕ

@@ -8,9 +8,8 @@ use native.Mathlib.Nat.{mul-pos, mul-le-mul, mul-le-mul-right, mul-lt-mul-of-pos
 use native.Mathlib.Decide.{decLe}
 use native.Mathlib.Omega.{arith}
 use lib.IntN.{ℤ}
-use lib.Dec.{T, ltb, eqb, eqb→eq, not-T, lit<, lit≤}
+use lib.Dec.{T, ltb, eqb, eqb→eq, lit<, lit≤}
 use lib.Ieee.{Float, nan, inf, fin, Format, binary32, binary64, prec, up, down, round, sum, unlike, add, sub, neg, mul, le}
-use lib.Ieee.Bits.{is-false}
 use lib.Ieee.Exact.{HasValue}
 use lib.Ieee.Fits.{and-l, down-pos}
 use lib.Ieee.Order.{round-mono}
@@ -36,9 +35,6 @@ by-value P k p (fin true m e) v = absurd (true≢false (v .0))
 by-value P k p (fin false m e) v = p m e (omega (arith, v .1))
 
 -- ---- what a comparison says
-
-pub refuted : (b : Bool) → (T b → ⊥) → b ≡ false
-refuted b h = is-false b (not-T b h)
 
 pub at-most : (a b : ℕ) (s : Bool) → T (ltb a b || (eqb a b && s)) → a ≤ b
 at-most a b s t = elim (decLe a b) [ yes h ↦ h | no g ↦ absurd (rw (le-ltb a b (omega arith), ne-eqb a b (omega arith)) at t) ]
@@ -178,23 +174,26 @@ module _ (f : Format) (K : ℕ) (H : K ≤ 2 ^ prec f) where
 
 -- ---- what is at most b is below any larger whole number
 
-fin-below : (a b j : ℕ) (s : Bool) (m n : ℕ) (e d : ℤ) → b < j → m * up e ≤ cond s a b * down e → n * up d ≡ j * down d → le (fin false n d) (fin s m e) ≡ false
+-- a value above 0 is not at most one with a minus sign, and not at most a smaller one
+pub not-le : (s : Bool) (m n : ℕ) (e d : ℤ) → 0 < n * up d → (s ≡ false → m * up e * down d < n * up d * down e) → le (fin false n d) (fin s m e) ≡ false
 unfolding le
-fin-below a b j true m n e d l h v =
+not-le true m n e d some less =
     let x = n * up d * down e in
-    let some : 0 < x = omega (arith, mul-lt-mul-of-pos-right l (mul-pos (down-pos d) (down-pos e)), ap (λ (k : ℕ). k * down e) v) in
+    let h : 0 < x = mul-pos some (down-pos e) in
     rw (ne-eqb x 0 (omega arith)) (go (eqb x (m * up e * down d)))
   where
     go : (b : Bool) → (b && false) ≡ false
     go true = refl
     go false = refl
-fin-below a b j false m n e d l h v =
+not-le false m n e d some less =
     let x = n * up d * down e in
     let y = m * up e * down d in
-    let less : y < x =
-    omega (arith, mul-lt-mul-of-pos-right l (mul-pos (down-pos d) (down-pos e)), mul-le-mul-right (down d) h, ap (λ (k : ℕ). k * down e) v) in
+    let h : y < x = less refl in
     rw (le-ltb x y (omega arith), ne-eqb x y (omega arith))
 
 pub bound-below : (a b j : ℕ) (x y : Float) → b < j → HasValue y false j 1 → Bound a b x → le y x ≡ false
 bound-below a b j x y l v h =
-    by-value (λ y. le y x ≡ false) j (λ n d v. by-bound (λ x. le (fin false n d) x ≡ false) a b (λ s m e h. fin-below a b j s m n e d l h v) x h) y v
+    by-value (λ y. le y x ≡ false) j
+    (λ n d v. by-bound (λ x. le (fin false n d) x ≡ false) a b
+    (λ s m e h. not-le s m n e d (rw v (mul-pos (omega arith) (down-pos d)))
+    (λ q. omega (arith, mul-lt-mul-of-pos-right l (mul-pos (down-pos d) (down-pos e)), mul-le-mul-right (down d) (rw q at h), ap (λ (k : ℕ). k * down e) v))) x h) y v

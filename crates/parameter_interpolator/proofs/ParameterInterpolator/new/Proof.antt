@@ -3,8 +3,5 @@ use borrow.Author.Needs.{needs}
 use Rattle.parameter_interpolator.proofs.ParameterInterpolator.new.Statement.{statement}
 use Rattle.parameter_interpolator.proofs.ParameterInterpolator.new.Tie as tie
 
-returns : tie.Need-returns
-returns c = cc
-
 pub new-spec : {M : Type 1} → statement M
-new-spec = tie.close (tie.spec (λ c κs. search needs) returns)
+new-spec = tie.close (tie.spec (λ c κs. search needs) (λ c. cc))

@@ -1,5 +1,5 @@
 -- Bounds by whole numbers: `Bound a b x` says that x is finite and lies from -a to b. Negation, products, sums and differences keep such bounds, so what is made
--- of knobs from 0 to 1 is bounded too. Assumes nothing.
+-- of knobs from 0 to 1 is bounded too.
 use borrow.Author.Tests.{ltb-false, le-ltb, ne-eqb}
 use mathlib.Core.Path.{_≡_, refl, ap}
 use mathlib.Core.Bool.{Bool, true, false, cond, _&&_, _||_, true≢false}

@@ -1,4 +1,4 @@
--- Numbers that are equal: of one sign they are one value. Assumes nothing.
+-- Numbers that are equal: of one sign they are one value.
 use mathlib.Core.Path.{_≡_, refl, sym, subst}
 use mathlib.Core.Bool.{Bool, true, false, not, _||_, Bool·beq, false≢true}
 use Prim.Native.Nat.{ℕ, _*_}

@@ -1,4 +1,4 @@
--- Laws of whole numbers: squares, powers of two, binary digits, and the nearer of two neighbours. Assumes nothing.
+-- Laws of whole numbers: squares, powers of two, binary digits, and the nearer of two neighbours.
 use mathlib.Core.Path.{_≡_, sym, ap, _∙_, subst}
 use mathlib.Core.Bool.{not}
 use Prim.Native.Nat.{ℕ, suc, _+_, _-_, _*_, _/_, _%_, _^_, _≤_, _<_, compare, Ordering, Ordering·lt, Ordering·eq, Ordering·gt}

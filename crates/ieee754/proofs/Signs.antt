@@ -1,4 +1,4 @@
--- The sign of what is rounded: a fraction and its negative are rounded to one magnitude, each with its own sign. Assumes nothing.
+-- The sign of what is rounded: a fraction and its negative are rounded to one magnitude, each with its own sign.
 use mathlib.Core.Path.{_≡_, refl, sym}
 use mathlib.Core.Bool.{Bool, true, false, cond, true≢false}
 use Prim.Native.Nat.{ℕ, zero, suc, _*_, _+_, _^_}

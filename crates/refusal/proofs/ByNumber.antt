@@ -1,4 +1,4 @@
--- What an answer's number shows: which answer it is, whether a call keeps the old value, and which questions were passed. Assumes nothing.
+-- What an answer's number shows: which answer it is, whether a call keeps the old value, and which questions were passed.
 use mathlib.Core.Path.{_≡_, refl, sym, ap, _∙_}
 use mathlib.Core.Bool.{Bool, true, false}
 use mathlib.Core.List.{[], _∷_}

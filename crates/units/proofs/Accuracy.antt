@@ -1,4 +1,4 @@
--- The contract of `semitones_to_ratio`, shown of any answer that equals the definition. Assumes nothing.
+-- The contract of `semitones_to_ratio`, shown of any answer that equals the definition.
 use mathlib.Core.Path.{_≡_, refl, sym, ap, _∙_}
 use mathlib.Core.Bool.{Bool, true, false, cond, true≢false}
 use Prim.Native.Nat.{ℕ, _+_, _*_, _%_, _<_}

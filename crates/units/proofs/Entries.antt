@@ -1,5 +1,5 @@
 -- Each entry of a table is a whole number of units, and within one part in 2 ^ 24 of the power of two that its place names: HIGH[i] of 2 ^ ((i - 128) / 12) in
--- units of 2 ^ -34, LOW[j] of 2 ^ (j / 3072) in units of 2 ^ -23. One test for each table, worked out by antt. Assumes nothing.
+-- units of 2 ^ -34, LOW[j] of 2 ^ (j / 3072) in units of 2 ^ -23. One test for each table, worked out by antt.
 use mathlib.Core.Path.{_≡_, refl, sym, ap, _∙_}
 use mathlib.Core.Bool.{Bool, true, false, _&&_}
 use mathlib.Core.List.{List}

@@ -1,4 +1,4 @@
--- Differences and products of values that are known as fractions, zero included, and the sign of those that have a minus sign. Assumes nothing.
+-- Differences and products of values that are known as fractions, zero included, and the sign of those that have a minus sign.
 use borrow.Author.Tests.{le-ltb}
 use mathlib.Core.Path.{_≡_, refl, sym, ap, _∙_}
 use mathlib.Core.Bool.{true, false, true≢false}

@@ -1,5 +1,5 @@
 -- A table of 256 entries that stands in code as a `match` on a `u8`, with an arm for each entry, gives the entry at each place: a walk of that code by hand, for any
--- entries, by induction on the arms. Assumes nothing.
+-- entries, by induction on the arms.
 use mathlib.Core.Path.{_≡_, refl, sym, ap, subst, _∙_}
 use mathlib.Core.Bool.{Bool, true}
 use mathlib.Core.List.{List, [], _∷_}

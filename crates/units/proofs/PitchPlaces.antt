@@ -1,6 +1,6 @@
 -- The two places that a pitch p below 256 reads: i, which is p without its fraction, and j, which is 256 * (p - i) without its fraction.
 -- Both are below 256, so each table has an entry there. p - i and 256 * (p - i) are exact, so 256 * i + j is 256 * p without its fraction.
--- Where p has a minus sign or is a NaN, i and j are 0. The code takes j from 256 * p at once, as its remainder by 256. Assumes nothing.
+-- Where p has a minus sign or is a NaN, i and j are 0. The code takes j from 256 * p at once, as its remainder by 256.
 use mathlib.Core.Path.{_≡_, refl, sym, ap, _∙_, subst}
 use mathlib.Core.Bool.{true, false, _&&_, true≢false}
 use Prim.Native.Nat.{ℕ, zero, suc, _+_, _-_, _*_, _/_, _%_, _^_, _≤_, _<_}

@@ -1,5 +1,5 @@
 -- Whole numbers and their powers: how three relative bounds, each at the power k, join to one, and how a bound at the power a * b is shown in two stages.
--- Every power is a variable here, so that nothing large is worked out. Assumes nothing.
+-- Every power is a variable here, so that nothing large is worked out.
 use mathlib.Core.Path.{_≡_, sym}
 use Prim.Native.Nat.{ℕ, zero, suc, _*_, _/_, _^_, _≤_, _<_}
 use native.Mathlib.Nat.{le-trans, le-of-eq, mul-comm, mul-assoc, mul-left-comm, mul-zero, mul-suc, mul-mul-mul-comm}

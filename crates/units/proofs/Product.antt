@@ -1,5 +1,5 @@
 -- The product of two entries, HIGH[i] and LOW[j], rounded once: a whole number R of units of 2 ^ -34, whose 3072nd power is within one part in 2 ^ 22 of the exact
--- one. Of the four parts in 2 ^ 24 each entry takes one and the rounding one. Assumes nothing.
+-- one. Of the four parts in 2 ^ 24 each entry takes one and the rounding one.
 use mathlib.Core.Path.{_≡_, sym, ap, _∙_}
 use mathlib.Core.Bool.{false}
 use Prim.Native.Nat.{ℕ, _+_, _-_, _*_, _/_, _^_, _≤_, _<_}

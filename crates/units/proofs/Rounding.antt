@@ -1,4 +1,4 @@
--- A fraction in the normal range is rounded to within one part in 2 ^ p of itself, where the format keeps p digits. Assumes nothing.
+-- A fraction in the normal range is rounded to within one part in 2 ^ p of itself, where the format keeps p digits.
 use mathlib.Core.Path.{_≡_, ap, _∙_, subst}
 use Prim.Native.Nat.{ℕ, suc, _+_, _-_, _*_, _/_, _%_, _^_, _≤_, _<_, compare}
 use native.Mathlib.Nat.{le-trans, le-of-eq, mul-comm, mul-assoc, mul-left-comm, mul-le-mul-left, mul-le-mul-right, mul-pos, add-mul, suc-mul, pow-suc}

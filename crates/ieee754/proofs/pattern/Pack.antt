@@ -1,5 +1,5 @@
 -- A value put together from its digits and its place, in either format: q * 2 ^ k units of the smallest value, with all of the format's digits in use, have the
--- pattern k * hid + q. The leading digit adds one to the exponent's field, and so does a carry that makes q one digit longer. Assumes nothing.
+-- pattern k * hid + q. The leading digit adds one to the exponent's field, and so does a carry that makes q one digit longer.
 use mathlib.Core.Path.{_≡_, sym, ap, _∙_}
 use mathlib.Core.Logic.{inl, inr}
 use mathlib.Core.Bool.{false}

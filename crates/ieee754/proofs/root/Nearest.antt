@@ -1,4 +1,4 @@
--- What `Root.sqrt` means, with no algorithm in it: of all the values of the format it is the one nearest to the root, and no other is as near. Assumes nothing.
+-- What `Root.sqrt` means, with no algorithm in it: of all the values of the format it is the one nearest to the root, and no other is as near.
 use mathlib.Core.Path.{_≡_, ap, _∙_}
 use mathlib.Core.Bool.{true, false, true≢false}
 use Prim.Native.Nat.{ℕ, suc, _+_, _-_, _*_, _^_, _≤_, _<_, compare}

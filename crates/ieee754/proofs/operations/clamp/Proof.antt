@@ -1,4 +1,4 @@
--- After the first test y is the larger of x and lo, as in the definition; the second is the definition's.
+-- Where the arms of the first test meet, y is as in the definition; the second test is the definition's.
 use mathlib.Core.Path.{_≡_}
 use mathlib.Core.Bool.{cond}
 use mathlib.Core.Logic.{⊎-elim}

@@ -3,7 +3,7 @@ use mathlib.Core.Path.{_≡_}
 use Prim.Native.Nat.{ℕ}
 use lib.Ieee.{Float}
 use Rattle.refusal.specs.Refusal.{KnobIn}
-use Rattle.refusal.proofs.Laws.{block-passed}
+use Rattle.refusal.proofs.ByNumber.{block-passed}
 use Rattle.analog_bass_drum.specs.AnalogBassDrum.{renderRefusal}
 
 pub knobs-in : (size : ℕ) (accent f0 tone decay a s : Float) → renderRefusal size accent f0 tone decay a s ≡ 0 → KnobIn tone × KnobIn decay

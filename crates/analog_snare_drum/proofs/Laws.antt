@@ -6,7 +6,7 @@ use lib.Ieee.{Float, binary32, neg}
 use Rattle.ieee754.specs.Single.{_⊕_, _⊖_, _⊗_, decimal}
 use Rattle.ieee754.proofs.Bounds.{mul-bound, add-bound, neg-bound, whole-bound}
 use Rattle.refusal.specs.Refusal.{KnobIn}
-use Rattle.refusal.proofs.Laws.{block-passed}
+use Rattle.refusal.proofs.ByNumber.{block-passed}
 use Rattle.refusal.proofs.Knobs.{unit-bound, times, decay-xt}
 use Rattle.units.specs.Units.{ratio, semitonesToRatio, unwrapOr}
 use Rattle.units.proofs.InRange.{in-range}

@@ -10,8 +10,8 @@ use Rattle.refusal.specs.Refusal.{number, answerNumber}
 use Rattle.refusal.specs.declared.Refusal.{Refusal}
 use Rattle.refusal.specs.declared.Answer.{Answer}
 use Rattle.refusal.specs.declared.Answer.the-variants.{Refused}
-use Rattle.refusal.proofs.Laws.{passed, knobs-passed, arm-refused}
-pub use Rattle.refusal.proofs.Laws.{KnobsIn}
+use Rattle.refusal.proofs.ByNumber.{passed, knobs-passed, arm-refused}
+pub use Rattle.refusal.proofs.ByNumber.{KnobsIn}
 use Rattle.cue_sheet.specs.CueLine.{strike, refused, answered, float, cueOf, knobsRefusal, fieldsRefusal, readFields, onFields, readCue}
 use Rattle.cue_sheet.specs.Sheet.{onCue, strikesOf}
 use Rattle.cue_sheet.specs.declared.Cue.{Cue}

@@ -1,4 +1,4 @@
--- The loop of `process_buffer`: `block`'s loop of a stage, over as many samples as the shorter slice has. Assumes nothing.
+-- The loop of `process_buffer`: `block`'s loop of a stage, over as many samples as the shorter slice has.
 use mathlib.Core.Path.{_≡_}
 use mathlib.Core.List.{List}
 use Prim.Native.Nat.{ℕ, _+_, _≤_, _<_, min}

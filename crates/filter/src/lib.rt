@@ -77,11 +77,10 @@ impl OnePole {
         self.set_f(0.01, FrequencyApproximation::Dirty).reset()
     }
 
-    pub fn reset(mut self) -> Self
+    pub fn reset(self) -> Self
         ensures { λ r. ⌜ r ≡ one-pole.reset self ⌝ }
     {
-        self.state = 0.0;
-        self
+        OnePole { state: 0.0, ..self }
     }
 
     // The tangent of pi f, approximated.
@@ -188,31 +187,27 @@ impl Svf {
             .reset()
     }
 
-    pub fn reset(mut self) -> Self
+    pub fn reset(self) -> Self
         ensures { λ r. ⌜ r ≡ svf.reset self ⌝ }
     {
-        self.state_1 = 0.0;
-        self.state_2 = 0.0;
-        self
+        Svf {
+            state_1: 0.0,
+            state_2: 0.0,
+            ..self
+        }
     }
 
     // The settings of another filter.
-    pub fn set(mut self, f: Svf) -> Self
+    pub fn set(self, f: Svf) -> Self
         ensures { λ r. ⌜ r ≡ svf.set self f ⌝ }
     {
-        self.g = f.g;
-        self.r = f.r;
-        self.h = f.h;
-        self
+        self.set_g_r_h(f.g, f.r, f.h)
     }
 
-    pub fn set_g_r_h(mut self, g: f32, r: f32, h: f32) -> Self
+    pub fn set_g_r_h(self, g: f32, r: f32, h: f32) -> Self
         ensures { λ r′. ⌜ r′ ≡ svf.setGRH self g r h ⌝ }
     {
-        self.g = g;
-        self.r = r;
-        self.h = h;
-        self
+        Svf { g, r, h, ..self }
     }
 
     pub fn set_g_r(self, g: f32, r: f32) -> Self

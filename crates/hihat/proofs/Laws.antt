@@ -4,7 +4,7 @@ use Prim.Native.Nat.{ℕ, _≤_}
 use native.Mathlib.Omega.{arith}
 use lib.Ieee.{Float}
 use Rattle.refusal.specs.Refusal.{isSampleRate}
-use Rattle.refusal.proofs.Laws.{KnobsIn, passed, block-passed}
+use Rattle.refusal.proofs.ByNumber.{KnobsIn, passed, block-passed}
 use Rattle.hihat.specs.Hihat.{renderRefusal}
 
 pub accepted : (rate : Float) (size : ℕ) (accent f0 tone decay noisiness : Float) → renderRefusal rate size accent f0 tone decay noisiness ≡ 0

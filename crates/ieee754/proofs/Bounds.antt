@@ -1,21 +1,21 @@
 -- Bounds by whole numbers: `Bound a b x` says that x is finite and lies from -a to b. Negation, products, sums and differences keep such bounds, so what is made
--- of knobs from 0 to 1 is bounded too. Assumes nothing.
+-- of knobs from 0 to 1 is bounded too.
 use borrow.Author.Tests.{ltb-false, le-ltb, ne-eqb}
-use mathlib.Core.Path.{_≡_, refl, sym, ap, _∙_}
+use mathlib.Core.Path.{_≡_, refl, ap}
 use mathlib.Core.Bool.{Bool, true, false, cond, _&&_, _||_, true≢false}
-use Prim.Native.Nat.{ℕ, zero, suc, _+_, _-_, _*_, _^_, _≤_, _<_, zero-le}
+use Prim.Native.Nat.{ℕ, _+_, _-_, _*_, _^_, _≤_, _<_, zero-le}
 use native.Mathlib.Nat.{mul-pos, mul-le-mul, mul-le-mul-right, mul-lt-mul-of-pos-right, le-of-mul-le-mul-right}
 use native.Mathlib.Decide.{decLe}
 use native.Mathlib.Omega.{arith}
 use lib.IntN.{ℤ}
-use lib.Dec.{T, ltb, eqb, eqb→eq, not-T, lit<, lit≤}
-use lib.Ieee.{Float, nan, inf, fin, Format, binary32, binary64, prec, emax, low, up, down, odd, units, round, sum, unlike, add, sub, neg, mul, le}
-use lib.Ieee.Bits.{is-false}
+use lib.Dec.{T, ltb, eqb, eqb→eq, lit<, lit≤}
+use lib.Ieee.{Float, nan, inf, fin, Format, binary32, binary64, prec, up, down, round, sum, unlike, add, sub, neg, mul, le}
 use lib.Ieee.Exact.{HasValue}
-use lib.Ieee.Fits.{round-is, and-l, down-pos}
-use lib.Ieee.Order.{kept, drop, round-mono}
+use lib.Ieee.Fits.{and-l, down-pos}
+use lib.Ieee.Order.{round-mono}
 use lib.Ieee.Back.{round-whole}
 use Rattle.ieee754.specs.Single.{decimal}
+use Rattle.ieee754.proofs.Signs.{round-neg}
 
 abbrev pub Bound : ℕ → ℕ → Float → Type 0
 Bound a b nan = ⊥
@@ -35,9 +35,6 @@ by-value P k p (fin true m e) v = absurd (true≢false (v .0))
 by-value P k p (fin false m e) v = p m e (omega (arith, v .1))
 
 -- ---- what a comparison says
-
-pub refuted : (b : Bool) → (T b → ⊥) → b ≡ false
-refuted b h = is-false b (not-T b h)
 
 pub at-most : (a b : ℕ) (s : Bool) → T (ltb a b || (eqb a b && s)) → a ≤ b
 at-most a b s t = elim (decLe a b) [ yes h ↦ h | no g ↦ absurd (rw (le-ltb a b (omega arith), ne-eqb a b (omega arith)) at t) ]
@@ -71,23 +68,6 @@ neg-bound a b nan h = h
 neg-bound a b (inf s) h = h
 neg-bound a b (fin true m e) h = h
 neg-bound a b (fin false m e) h = h
-
--- a negative fraction rounds as its magnitude does
-odd-neg : (d q k l : ℕ) → odd d true q k l ≡ neg (odd d false q k l)
-unfolding odd neg
-odd-neg d zero k l = refl
-odd-neg d (suc q) k l = refl
-
-units-neg : (f : Format) (q k : ℕ) → units f true q k ≡ neg (units f false q k)
-unfolding units neg
-units-neg f q k = go (ltb (q * 2 ^ k) (2 ^ (low f + suc (emax f))))
-  where
-    go : (b : Bool) → cond b (odd (suc (prec f)) true q k (low f)) (inf true) ≡ neg (cond b (odd (suc (prec f)) false q k (low f)) (inf false))
-    go true = odd-neg (suc (prec f)) q k (low f)
-    go false = refl
-
-round-neg : (f : Format) (n c : ℕ) → round f true n c ≡ neg (round f false n c)
-round-neg f n c = round-is f true n c ∙ units-neg f (kept (prec f) (n * 2 ^ low f) c) (drop (prec f) (n * 2 ^ low f) c) ∙ ap neg (sym (round-is f false n c))
 
 zero-is : (f : Format) → round f false 0 1 ≡ decimal 0 0
 unfolding round
@@ -194,23 +174,26 @@ module _ (f : Format) (K : ℕ) (H : K ≤ 2 ^ prec f) where
 
 -- ---- what is at most b is below any larger whole number
 
-fin-below : (a b j : ℕ) (s : Bool) (m n : ℕ) (e d : ℤ) → b < j → m * up e ≤ cond s a b * down e → n * up d ≡ j * down d → le (fin false n d) (fin s m e) ≡ false
+-- a value above 0 is not at most one with a minus sign, and not at most a smaller one
+pub not-le : (s : Bool) (m n : ℕ) (e d : ℤ) → 0 < n * up d → (s ≡ false → m * up e * down d < n * up d * down e) → le (fin false n d) (fin s m e) ≡ false
 unfolding le
-fin-below a b j true m n e d l h v =
+not-le true m n e d some less =
     let x = n * up d * down e in
-    let some : 0 < x = omega (arith, mul-lt-mul-of-pos-right l (mul-pos (down-pos d) (down-pos e)), ap (λ (k : ℕ). k * down e) v) in
+    let h : 0 < x = mul-pos some (down-pos e) in
     rw (ne-eqb x 0 (omega arith)) (go (eqb x (m * up e * down d)))
   where
     go : (b : Bool) → (b && false) ≡ false
     go true = refl
     go false = refl
-fin-below a b j false m n e d l h v =
+not-le false m n e d some less =
     let x = n * up d * down e in
     let y = m * up e * down d in
-    let less : y < x =
-    omega (arith, mul-lt-mul-of-pos-right l (mul-pos (down-pos d) (down-pos e)), mul-le-mul-right (down d) h, ap (λ (k : ℕ). k * down e) v) in
+    let h : y < x = less refl in
     rw (le-ltb x y (omega arith), ne-eqb x y (omega arith))
 
 pub bound-below : (a b j : ℕ) (x y : Float) → b < j → HasValue y false j 1 → Bound a b x → le y x ≡ false
 bound-below a b j x y l v h =
-    by-value (λ y. le y x ≡ false) j (λ n d v. by-bound (λ x. le (fin false n d) x ≡ false) a b (λ s m e h. fin-below a b j s m n e d l h v) x h) y v
+    by-value (λ y. le y x ≡ false) j
+    (λ n d v. by-bound (λ x. le (fin false n d) x ≡ false) a b
+    (λ s m e h. not-le s m n e d (rw v (mul-pos (omega arith) (down-pos d)))
+    (λ q. omega (arith, mul-lt-mul-of-pos-right l (mul-pos (down-pos d) (down-pos e)), mul-le-mul-right (down d) (rw q at h), ap (λ (k : ℕ). k * down e) v))) x h) y v

@@ -1,4 +1,4 @@
--- What the two formats have in common. Assumes nothing.
+-- What the two formats have in common.
 use mathlib.Core.Path.{_≡_, refl}
 use Prim.Native.Nat.{_+_, _-_, _*_, _^_, _≤_}
 use lib.Dec.{lit≤}

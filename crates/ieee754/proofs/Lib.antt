@@ -6,5 +6,5 @@ mod Formats
 pub mod NotANumber
 pub mod Numbers
 pub mod Signs
-mod Units
+mod SmallestUnits
 pub mod Whole

@@ -1,4 +1,4 @@
--- Patterns of numbers and of not-a-numbers. Assumes nothing.
+-- Patterns of numbers and of not-a-numbers.
 use Prim.Native.Nat.{ℕ, _<_, _%_}
 use native.Mathlib.Decide.{decLt}
 use native.Mathlib.Omega.{arith}

@@ -1,7 +1,7 @@
--- Laws of whole numbers: squares, powers of two, binary digits, and the nearer of two neighbours. Assumes nothing.
+-- Laws of whole numbers: squares, powers of two, binary digits, and the nearer of two neighbours.
 use mathlib.Core.Path.{_≡_, sym, ap, _∙_, subst}
 use mathlib.Core.Bool.{not}
-use Prim.Native.Nat.{ℕ, suc, _+_, _*_, _/_, _%_, _^_, _≤_, _<_, compare, Ordering, Ordering·lt, Ordering·eq, Ordering·gt}
+use Prim.Native.Nat.{ℕ, suc, _+_, _-_, _*_, _/_, _%_, _^_, _≤_, _<_, compare, Ordering, Ordering·lt, Ordering·eq, Ordering·gt}
 use native.Mathlib.Nat.{le-antisymm, le-dest, lt-suc-self, div-lt-iff-lt-mul, lt-of-lt-of-le, lt-of-not-le, not-le-of-lt, mul-le-mul, mul-le-mul-right, mul-lt-mul-of-pos-right}
 use native.Mathlib.Decide.{decLe}
 use native.Mathlib.Omega.{arith}
@@ -9,7 +9,7 @@ use lib.Arith.{lt-of-le-ne}
 use lib.Dec.{T, isLe, isEq, eqb, leb→le, nleb→lt, eqb→eq, eqb-refl}
 use lib.Pow.{pow-add, pow-pos, pow-mono}
 use lib.Ieee.{size, nearest}
-use lib.Ieee.Digits.{size-lt, size-le}
+use lib.Ieee.Digits.{size-lt, size-le, back}
 
 pub sq-lt-back : {a b : ℕ} → a * a < b * b → a < b
 sq-lt-back {a} {b} h = lt-of-not-le (λ (g : b ≤ a). not-le-of-lt h (mul-le-mul g g))
@@ -30,6 +30,10 @@ heron n g some =
 
 pub pow-swap : (a b c d : ℕ) → a + b ≡ c + d → 2 ^ a * 2 ^ b ≡ 2 ^ c * 2 ^ d
 pow-swap a b c d e = sym (pow-add 2 a b) ∙ ap (λ (k : ℕ). 2 ^ k) e ∙ pow-add 2 c d
+
+-- 2 ^ b with the factor 2 ^ a taken out
+pub pow-split : (a b : ℕ) → a ≤ b → 2 ^ b ≡ 2 ^ (b - a) * 2 ^ a
+pow-split a b h = ap (λ (k : ℕ). 2 ^ k) (sym (back b a h)) ∙ pow-add 2 (b - a) a
 
 -- how many binary digits n has
 pub size-gt : (j n : ℕ) → 2 ^ j ≤ n → j < size n

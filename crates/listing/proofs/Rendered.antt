@@ -16,7 +16,7 @@ use Rattle.text.proofs.Digits.{pattern-length}
 use Rattle.text.proofs.Places.{decimal-length}
 use Rattle.refusal.specs.Refusal.{number}
 use Rattle.refusal.specs.declared.Refusal.{Refusal}
-use Rattle.refusal.proofs.Laws.{refused}
+use Rattle.refusal.proofs.ByNumber.{refused}
 use Rattle.text.specs.Write.{Written, Whole, ascii}
 use Rattle.text.proofs.Written.{whole}
 use Rattle.listing.specs.Cues.{row, rows, answer, text}

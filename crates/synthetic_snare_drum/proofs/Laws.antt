@@ -6,7 +6,7 @@ use lib.Ieee.{Float, binary32, neg}
 use Rattle.ieee754.specs.Single.{_⊕_, _⊖_, _⊗_, decimal}
 use Rattle.ieee754.proofs.Bounds.{add-bound, sub-bound}
 use Rattle.refusal.specs.Refusal.{KnobIn, isSampleRate}
-use Rattle.refusal.proofs.Laws.{passed, block-passed}
+use Rattle.refusal.proofs.ByNumber.{passed, block-passed}
 use Rattle.refusal.proofs.Knobs.{unit-bound, times, minus-times, product, decay-xt}
 use Rattle.units.specs.Units.{ratio, semitonesToRatio, unwrapOr}
 use Rattle.units.proofs.InRange.{in-range}

@@ -1,4 +1,4 @@
--- A countdown that has not ended is one more than what remains after it. Assumes nothing.
+-- A countdown that has not ended is one more than what remains after it.
 use mathlib.Core.Path.{_≡_, ap}
 use Prim.Native.Nat.{ℕ, suc, _-_}
 use native.Mathlib.Omega.{arith}

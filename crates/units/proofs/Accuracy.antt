@@ -1,23 +1,21 @@
--- The contract of `semitones_to_ratio`, shown of any answer that equals the definition. Assumes nothing.
+-- The contract of `semitones_to_ratio`, shown of any answer that equals the definition.
 use mathlib.Core.Path.{_≡_, refl, sym, ap, _∙_}
-use mathlib.Core.Bool.{Bool, true, false, cond}
+use mathlib.Core.Bool.{Bool, true, false, cond, true≢false}
 use Prim.Native.Nat.{ℕ, _+_, _*_, _%_, _<_}
-use native.Mathlib.Nat.{not-le-of-lt}
-use native.Mathlib.Omega.{arith}
-use lib.Dec.{T, eqb, ltb→lt, eqb→eq}
+use lib.Dec.{T, lit<, ltb→lt}
 use lib.ListN.{getD}
 use lib.IntN.{pos, _+ℤ_, _-ℤ_, +ℤ-assoc, -ℤ-+ℤ-cancel, pos-+ℤ-pos}
 use lib.Ieee.{Float, nan, inf, fin, binary32, up, down, round, toUnsigned, le, lt}
-use lib.Ieee.Fits.{down-pos, and-r, add-fits}
+use lib.Ieee.Fits.{add-fits}
 use Rattle.ieee754.specs.Single.{_⊗_, decimal}
-use Rattle.ieee754.proofs.Bounds.{at-most, refuted}
+use Rattle.ieee754.proofs.Bounds.{not-le}
 use Rattle.refusal.specs.declared.Refusal.the-variants.{Pitch}
 use Rattle.units.specs.Tables.{«LUT_PITCH_RATIO_HIGH», «LUT_PITCH_RATIO_LOW»}
 use Rattle.units.specs.Units.{pitchOf, ratio, semitonesToRatio, number}
 use Rattle.units.specs.Accuracy.{floor256, Accurate, InTables, Promised}
 use Rattle.units.specs.declared.Ratio.{Ratio}
 use Rattle.units.specs.declared.Ratio.the-variants.{Of, Refused}
-use Rattle.units.proofs.Places.{integral, step, Places, places}
+use Rattle.units.proofs.PitchPlaces.{integral, step, Places, places}
 use Rattle.units.proofs.Product.{close-at}
 
 -- ---- what is below 256 is not 256 or more
@@ -26,12 +24,8 @@ unfolding lt le round
 not-beyond nan t = absurd t
 not-beyond (inf true) t = refl
 not-beyond (inf false) t = absurd t
-not-beyond (fin true m e) t =
-    refuted (le (decimal 256 0) (fin true m e)) (λ k.
-    let zero = eqb→eq (256 * down e) 0 (and-r (eqb (256 * down e) (m * up e * 1)) (eqb (256 * down e) 0) k) in
-    omega (arith, zero, down-pos e))
-not-beyond (fin false m e) t =
-    refuted (le (decimal 256 0) (fin false m e)) (λ k. not-le-of-lt (ltb→lt (m * up e * 1) (256 * down e) t) (at-most (256 * down e) (m * up e * 1) true k))
+not-beyond (fin true m e) t = not-le true m 1 e (pos 8) (lit< tt) (λ q. absurd (true≢false q))
+not-beyond (fin false m e) t = not-le false m 1 e (pos 8) (lit< tt) (λ q. ltb→lt (m * up e * 1) (256 * down e) t)
 
 -- ---- the exponent: g + 104448 is 256 * p without its fraction, plus 71680
 exponent : (n : ℕ) → pos (n + 71680) ≡ pos n -ℤ pos 32768 +ℤ pos 104448

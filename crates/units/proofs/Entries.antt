@@ -1,5 +1,5 @@
 -- Each entry of a table is a whole number of units, and within one part in 2 ^ 24 of the power of two that its place names: HIGH[i] of 2 ^ ((i - 128) / 12) in
--- units of 2 ^ -34, LOW[j] of 2 ^ (j / 3072) in units of 2 ^ -23. One test for each table, worked out by antt. Assumes nothing.
+-- units of 2 ^ -34, LOW[j] of 2 ^ (j / 3072) in units of 2 ^ -23. One test for each table, worked out by antt.
 use mathlib.Core.Path.{_≡_, refl, sym, ap, _∙_}
 use mathlib.Core.Bool.{Bool, true, false, _&&_}
 use mathlib.Core.List.{List}
@@ -76,10 +76,9 @@ abbrev highNear : ℕ → ℕ → Bool
 highNear i a = leb (16777215 ^ 12 * 2 ^ (280 + i)) ((16777216 * a) ^ 12) && leb ((16777216 * a) ^ 12) (16777217 ^ 12 * 2 ^ (280 + i))
 
 raised : (i : ℕ) → (2 ^ (280 + i)) ^ 256 ≡ 2 ^ (256 * i + 71680)
-raised i = sym (pow-mul 2 (280 + i) 256) ∙ ap (λ (z : ℕ). 2 ^ z) (sum i)
-  where
-    sum : (i : ℕ) → (280 + i) * 256 ≡ 256 * i + 71680
-    sum i = omega arith
+raised i =
+    let e : (280 + i) * 256 ≡ 256 * i + 71680 = omega arith in
+    sym (pow-mul 2 (280 + i) 256) ∙ ap (λ (z : ℕ). 2 ^ z) e
 
 high-near : (i a : ℕ) → T (highNear i a) → Near (2 ^ (256 * i + 71680)) a
 high-near i a t =

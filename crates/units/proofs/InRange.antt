@@ -1,5 +1,5 @@
 -- A pitch of at most 127 semitones is answered by its ratio. The knobs of a voice bound its pitches, so no voice meets the refusal: what it hands to `unwrap_or`
--- is never its result, and the voice's definition has `ratio` alone. Assumes nothing.
+-- is never its result, and the voice's definition has `ratio` alone.
 use mathlib.Core.Path.{_≡_}
 use mathlib.Core.Bool.{false}
 use Prim.Native.Nat.{ℕ, _+_, _^_, _≤_}

@@ -4,8 +4,8 @@ mod Rounding
 mod Table
 mod Lookup
 mod Entries
-mod Values
-mod Places
+mod Fractions
+mod PitchPlaces
 mod Product
 mod Accuracy
 pub mod InRange

@@ -1,6 +1,6 @@
 -- A table of 256 entries that stands in code as a `match` on a `u8`, with an arm for each entry, gives the entry at each place: a walk of that code by hand, for any
--- entries, by induction on the arms. Assumes nothing.
-use mathlib.Core.Path.{_≡_, refl, sym, ap, _∙_}
+-- entries, by induction on the arms.
+use mathlib.Core.Path.{_≡_, refl, sym, ap, subst, _∙_}
 use mathlib.Core.Bool.{Bool, true}
 use mathlib.Core.List.{List, [], _∷_}
 use Prim.Native.Nat.{ℕ, suc, _+_, _^_, _≤_, _<_}
@@ -17,9 +17,13 @@ use mir.Syntax.{Ty, Body, Arms, Fn, arm, noDefault, assign, place, rvOpd, float,
 use mir.Val.{Val, vint, vfloat}
 use base.Logic.{SProp, ent, emp, via, fst∗}
 use base.Fml.{ftrue, fat, froom, fdies}
-use prog.Wp.{Heap, Env, Calls, Loops, Wp, WpFn, next, afterSeq, atReturn}
+use prog.Model.{Model}
+use prog.Routine.{Name, Env as Names}
+use prog.Wp.{Heap, Env, Calls, Loops, Closed, Wp, WpFn, next, afterSeq, atReturn}
 use ghost.Atoms.{Atoms}
 use contract.Notation.{Connectives, connectives}
+use contract.Running.{GhostRules, Running, givenOf, tables, tablesOf}
+use sound.WpLaws.{WpFn-mono}
 use types.Kit.{Given, ‵, Item, Post, Seq, Go, runs, prop, post, anyQ, atRet, _$_, _∵_, !, qed, by, move, drop, fjoin, suffices, frame, done}
 use types.Run.{OneOf, Cases, look, init, forget, stop, from, load, float-lit, of-opd, assigns, assigns-last, first, switches, exec, returns}
 use types.Run.{enter, alloc1, alloc0, params1, pass1, pass0, free1, free0}
@@ -30,9 +34,11 @@ use denote.Plain.{uint-makes, uint-vals, uint-tells}
 use denote.Builtin.{u8, f32}
 use denote.Signature.{Signature, plain}
 use denote.Steps.{owned, nothing}
-use denote.Triple.Clauses.{Clauses, Ended}
+use denote.Triple.Clauses.{Clauses, Ended, closing}
 use denote.Triple.Entry.{onEntry}
-use denote.Triple.Walked.{says, Stays, stay-none, walkOf, AllGo, goes-none, Walks, ends-at, walked}
+use denote.Triple.Spec.{Meets, tripleOf}
+use denote.Triple.Table.{entered}
+use denote.Triple.Walked.{says, Stays, stay-none, walkOf, AllGo, goes-none, Walks, ends-at, walked, walk-meets}
 use denote.Exit.{yes}
 use Rattle.units.proofs.Table.{every}
 
@@ -73,7 +79,7 @@ signature = record { lifetimes = 0; outlives = []; params = plain (λ κs. u8) �
 abbrev ended : Ended
 ended = record { signature = signature; kept = (yes, tt) }
 
-abbrev pub stayed : Stays (signature .params) (ended .kept)
+abbrev stayed : Stays (signature .params) (ended .kept)
 stayed = (stay-none (λ κs. u8) yes, tt)
 
 module _ {M : Type 1} (𝓤 : URA M) (H : Heap 𝓤) (A : Atoms 𝓤) (W : Given 𝓤 H A) where
@@ -82,7 +88,7 @@ module _ {M : Type 1} (𝓤 : URA M) (H : Heap 𝓤) (A : Atoms 𝓤) (W : Given
   abbrev promise : List Float → Clauses 𝓤 ended
   promise xs = λ κs args. record { ghost = Unit {0}; requires = λ g. ⊤ₛ; ensures = λ g r end. ⌜ r ≡ getD xs (args .0) nan ⌝ }
 
-  pub goes : AllGo 𝓤 H A W 0 (signature .params) (ended .kept) stayed
+  goes : AllGo 𝓤 H A W 0 (signature .params) (ended .kept) stayed
   goes = (goes-none 𝓤 H A W 0 (λ κs. u8) yes (λ κs x f. refl), tt)
 
   -- ---- the switch: the arm that runs stores `wanted`, the entry at i
@@ -152,7 +158,22 @@ module _ {M : Type 1} (𝓤 : URA M) (H : Heap 𝓤) (A : Atoms 𝓤) (W : Given
         alloc1 ! (λ l₀. alloc1 ! (λ l₁. alloc1 ! (λ l₂. alloc0 ! $ params1 ! $ pass1 ! (init ! 2 refl (tt, record { fits = small })) $ pass0 ! $
         first ! $ switches ! (load ! (from ! (stop !)) (look ! 2 refl)) (chosen l₀ l₁ l₂))))
 
-  pub walks : (xs : List Float) → Full xs → (C : Calls 𝓤 H) (Λ : Loops 𝓤 H) → Walks 𝓤 H A ended stayed (WpFn 𝓤 H C Λ (function xs)) (promise xs)
+  walks : (xs : List Float) → Full xs → (C : Calls 𝓤 H) (Λ : Loops 𝓤 H) → Walks 𝓤 H A ended stayed (WpFn 𝓤 H C Λ (function xs)) (promise xs)
   walks xs full C Λ =
       walked 𝓤 H A ended stayed (promise xs) (WpFn 𝓤 H C Λ (function xs)) (λ κs. (uint-vals w8, tt)) (λ κs. (uint-tells w8, tt))
       (λ κs qs bounds a g are. via 𝓤 _ (fst∗ 𝓤 _ (emp 𝓤)) (walk xs full C Λ (a .0) (are .0 .1)))
+
+-- ---- a function g whose code is that of the table, under its name k
+module _ {M : Type 1} (𝓤 : URA M) (H : Heap 𝓤) (𝓜 : Model 𝓤 H) (𝓖 : GhostRules 𝓤 H) (𝓡 : Running 𝓤 H 𝓜) (env : Names) where
+  pub meets : (xs : List Float) → Full xs → (g : Fn) → g ≡ function xs → (k : Name) → let all = tables 𝓤 H 𝓜 𝓡 env in Closed 𝓤 H (all .C) (all .Λ) k g
+      → let A = 𝓖 .A in Meets 𝓤 H A signature (all .C k) (closing 𝓤 H A ended (promise 𝓤 H A (givenOf 𝓤 H 𝓜 𝓖) xs))
+  unfolding tablesOf
+  meets xs full g same k closed =
+      let A = 𝓖 .A in
+      let W = givenOf 𝓤 H 𝓜 𝓖 in
+      let all = tables 𝓤 H 𝓜 𝓡 env in
+      let 𝓣 = tablesOf 𝓤 H 𝓜 all in
+      let c = promise 𝓤 H A W xs in
+      entered 𝓤 H (tripleOf 𝓤 H A signature (closing 𝓤 H A ended c)) (all .C) (all .Λ) k g closed
+      (walk-meets 𝓤 H A ended stayed W (goes 𝓤 H A W) c _ (WpFn-mono 𝓤 H (W .laws) 𝓣 g)
+      (subst (λ (g : Fn). Walks 𝓤 H A ended stayed (WpFn 𝓤 H (𝓣 .C) (𝓣 .Λ) g) c) (sym same) (walks 𝓤 H A W xs full (𝓣 .C) (𝓣 .Λ))))

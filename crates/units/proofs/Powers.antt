@@ -1,10 +1,11 @@
 -- Whole numbers and their powers: how three relative bounds, each at the power k, join to one, and how a bound at the power a * b is shown in two stages.
--- Every power is a variable here, so that nothing large is worked out. Assumes nothing.
-use mathlib.Core.Path.{_≡_, sym, _∙_}
+-- Every power is a variable here, so that nothing large is worked out.
+use mathlib.Core.Path.{_≡_, sym}
 use Prim.Native.Nat.{ℕ, zero, suc, _*_, _/_, _^_, _≤_, _<_}
-use native.Mathlib.Nat.{le-trans, le-of-eq, le-of-lt, mul-comm, mul-assoc, mul-left-comm, mul-zero, mul-suc, suc-mul, mul-mul-mul-comm}
+use native.Mathlib.Nat.{le-trans, le-of-eq, mul-comm, mul-assoc, mul-left-comm, mul-zero, mul-suc, mul-mul-mul-comm}
 use native.Mathlib.Nat.{mul-le-mul, mul-le-mul-left, le-of-mul-le-mul-right, div-mul-le-self, lt-div-mul-add}
 use native.Mathlib.Nat.{one-le-pow, pow-zero, pow-suc, pow-le-pow-left}
+use native.Mathlib.Omega.{arith}
 use lib.Pow.{pow-add}
 
 pub mul-pow : (a b k : ℕ) → (a * b) ^ k ≡ a ^ k * b ^ k
@@ -49,7 +50,7 @@ module _ (a b X z t u : ℕ) where
 
 -- w / P without its last digits: a quotient by P * S, times S
 pub quotient-least : (P S w : ℕ) → P * (w / (P * S) * S) ≤ w
-quotient-least P S w = le-trans (le-of-eq (mul-left-comm P (w / (P * S)) S)) (div-mul-le-self w (P * S))
+quotient-least P S w = omega (arith, div-mul-le-self w (P * S))
 
 pub quotient-most : (P S w : ℕ) → 0 < P * S → w ≤ P * (suc (w / (P * S)) * S)
-quotient-most P S w h = le-trans (le-of-lt (lt-div-mul-add h)) (le-of-eq (sym (suc-mul (w / (P * S)) (P * S)) ∙ sym (mul-left-comm P (suc (w / (P * S))) S)))
+quotient-most P S w h = omega (arith, lt-div-mul-add {a = w} h)

@@ -1,25 +1,25 @@
 -- The product of two entries, HIGH[i] and LOW[j], rounded once: a whole number R of units of 2 ^ -34, whose 3072nd power is within one part in 2 ^ 22 of the exact
--- one. Of the four parts in 2 ^ 24 each entry takes one and the rounding one. Assumes nothing.
+-- one. Of the four parts in 2 ^ 24 each entry takes one and the rounding one.
 use mathlib.Core.Path.{_≡_, sym, ap, _∙_}
 use mathlib.Core.Bool.{false}
 use Prim.Native.Nat.{ℕ, _+_, _-_, _*_, _/_, _^_, _≤_, _<_}
-use native.Mathlib.Nat.{le-trans, le-of-lt, lt-of-lt-of-le, lt-of-le-of-lt, lt-of-not-le, not-le-of-lt, mul-assoc, mul-right-comm, mul-pos}
+use native.Mathlib.Nat.{le-trans, le-of-lt, lt-of-lt-of-le, lt-of-le-of-lt, mul-assoc, mul-right-comm, mul-pos}
 use native.Mathlib.Nat.{mul-le-mul, mul-le-mul-left, mul-le-mul-right, mul-lt-mul-of-pos-right, le-of-mul-le-mul-right, le-div-iff-mul-le, eq-of-mul-eq-mul-right}
 use native.Mathlib.Omega.{arith}
 use lib.Dec.{lit<, lit≤}
 use lib.ListN.{getD}
-use lib.Pow.{pow-add, pow-pos, pow-mono, shl-lt}
+use lib.Pow.{pow-add, pow-pos, shl-lt}
 use lib.Ieee.{Float, nan, inf, fin, binary32, up, down, size, round}
-use lib.Ieee.Digits.{size-lt, back}
 use lib.Ieee.Exact.{HasValue}
 use lib.Ieee.Order.{drop, kept}
 use lib.Ieee.Scale.{round-val}
 use Rattle.ieee754.specs.Single.{_⊗_}
+use Rattle.ieee754.proofs.Numbers.{pow-split, size-gt}
 use Rattle.units.specs.Tables.{«LUT_PITCH_RATIO_HIGH», «LUT_PITCH_RATIO_LOW»}
 use Rattle.units.proofs.Powers.{joined-least, joined-most}
 use Rattle.units.proofs.Rounding.{kept-near}
 use Rattle.units.proofs.Entries.{Entry, high-entry, low-entry}
-use Rattle.units.proofs.Values.{product}
+use Rattle.units.proofs.Fractions.{product}
 
 -- ---- q / 2 ^ 57, rounded
 -- from units of 2 ^ -149 to units of 2 ^ -34
@@ -40,9 +40,7 @@ place q = drop 24 (q * 2 ^ 149) (2 ^ 57)
 
 module _ (q : ℕ) (Q : 2 ^ 46 ≤ q) (Q' : q < 2 ^ 69) where
   long : 139 ≤ size (q * 2 ^ 149 / 2 ^ 57)
-  long =
-      lt-of-not-le (λ (g : size (q * 2 ^ 149 / 2 ^ 57) ≤ 138).
-      not-le-of-lt (lt-of-lt-of-le (size-lt (q * 2 ^ 149 / 2 ^ 57)) (pow-mono g)) (le-div-iff-mul-le {k = 2 ^ 57} (pow-pos 57) .1 (mul-le-mul-right (2 ^ 149) Q)))
+  long = size-gt 138 _ (le-div-iff-mul-le {k = 2 ^ 57} (pow-pos 57) .1 (mul-le-mul-right (2 ^ 149) Q))
 
   -- the result in units of 2 ^ -34
   units : ℕ
@@ -51,12 +49,7 @@ module _ (q : ℕ) (Q : 2 ^ 46 ≤ q) (Q' : q < 2 ^ 69) where
   units-are : digits q * 2 ^ place q ≡ units * 2 ^ 115
   unfolding units
   units-are =
-      ap (λ (z : ℕ). digits q * 2 ^ z) (sym (back (place q) 115 (less (size (q * 2 ^ 149 / 2 ^ 57)) long)))
-      ∙ ap (λ (z : ℕ). digits q * z) (pow-add 2 (place q - 115) 115)
-      ∙ sym (mul-assoc (digits q) (2 ^ (place q - 115)) (2 ^ 115))
-    where
-      less : (z : ℕ) → 139 ≤ z → 115 ≤ z - 24
-      less z h = omega arith
+      ap (λ (z : ℕ). digits q * z) (pow-split 115 (place q) (omega (arith, long))) ∙ sym (mul-assoc (digits q) (2 ^ (place q - 115)) (2 ^ 115))
 
   near : (16777215 * q ≤ 16777216 * (units * 2 ^ 23)) × (16777216 * (units * 2 ^ 23) ≤ 16777217 * q)
   near =
@@ -73,10 +66,9 @@ module _ (q : ℕ) (Q : 2 ^ 46 ≤ q) (Q' : q < 2 ^ 69) where
       more n y h = omega arith
 
   fits : digits q * 2 ^ place q < 2 ^ 277
-  fits = rw units-are (lt-of-lt-of-le (shl-lt 70 115 (few units (near .1))) (lit≤ tt))
-    where
-      few : (R : ℕ) → 16777216 * (R * 2 ^ 23) ≤ 16777217 * q → R < 2 ^ 70
-      few R h = omega arith
+  fits =
+      let few : units < 2 ^ 70 = omega (arith, near .1) in
+      rw units-are (lt-of-lt-of-le (shl-lt 70 115 few) (lit≤ tt))
 
   value : HasValue (round binary32 false q (2 ^ 57)) false units (2 ^ 34)
   value = coarser (round binary32 false q (2 ^ 57)) units (rw units-are at (round-val binary32 q (2 ^ 57) fits))
@@ -89,10 +81,9 @@ pub record Close (i j : ℕ) (r : Float) : Type 0 where
   pub most : (4194304 * R) ^ 3072 ≤ 4194305 ^ 3072 * 2 ^ (256 * i + j + 71680)
 
 exponent : (i j : ℕ) → 2 ^ (256 * i + 71680) * 2 ^ j ≡ 2 ^ (256 * i + j + 71680)
-exponent i j = sym (pow-add 2 (256 * i + 71680) j) ∙ ap (λ (z : ℕ). 2 ^ z) (sum i j)
-  where
-    sum : (i j : ℕ) → 256 * i + 71680 + j ≡ 256 * i + j + 71680
-    sum i j = omega arith
+exponent i j =
+    let e : 256 * i + 71680 + j ≡ 256 * i + j + 71680 = omega arith in
+    sym (pow-add 2 (256 * i + 71680) j) ∙ ap (λ (z : ℕ). 2 ^ z) e
 
 module _ (i j : ℕ) (x y : Float) (a : Entry 34 45 (2 ^ (256 * i + 71680)) x) (b : Entry 23 24 ((2 ^ 23) ^ 3072 * 2 ^ j) y) where
   abbrev h : ℕ

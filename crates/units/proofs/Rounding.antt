@@ -1,7 +1,7 @@
--- A fraction in the normal range is rounded to within one part in 2 ^ p of itself, where the format keeps p digits. Assumes nothing.
+-- A fraction in the normal range is rounded to within one part in 2 ^ p of itself, where the format keeps p digits.
 use mathlib.Core.Path.{_≡_, ap, _∙_, subst}
 use Prim.Native.Nat.{ℕ, suc, _+_, _-_, _*_, _/_, _%_, _^_, _≤_, _<_, compare}
-use native.Mathlib.Nat.{le-trans, le-of-eq, mul-comm, mul-assoc, mul-left-comm, mul-le-mul-left, mul-le-mul-right, mul-pos, mul-add, add-mul, suc-mul, pow-suc}
+use native.Mathlib.Nat.{le-trans, le-of-eq, mul-comm, mul-assoc, mul-left-comm, mul-le-mul-left, mul-le-mul-right, mul-pos, add-mul, suc-mul, pow-suc}
 use native.Mathlib.Nat.{mod-lt, div-add-mod', le-div-iff-mul-le}
 use native.Mathlib.Omega.{arith}
 use lib.Pow.{pow-add, pow-pos}
@@ -28,31 +28,21 @@ closest-half : (a u : ℕ) → 0 < u → Half (closest a u) u a
 closest-half a u U = subst (λ (x : ℕ). Half (closest a u) u x) (div-add-mod' a u) (half (a / u) (a % u) u (mod-lt a U))
 
 -- ---- a number of p digits in units of u is off by u / 2, which is one part in 2 ^ p
-digits : (z p : ℕ) → 0 < p → p ≤ z → p - 1 + (z - p) < z
-digits z p P h = omega arith
-
 -- x is at most u / 2 above y, and u goes s times into n
 part : (x y u n s : ℕ) → x * 2 ≤ y * 2 + u → s * u ≤ n → s * 2 * x ≤ s * 2 * y + n
-part x y u n s h k =
-    let a : s * (x * 2) ≤ s * (y * 2 + u) = mul-le-mul-left s h in
-    let b : s * (y * 2 + u) ≡ s * 2 * y + s * u = simp (mul-add, mul-assoc, mul-comm, mul-left-comm) in
-    let c : s * (x * 2) ≡ s * 2 * x = simp (mul-assoc, mul-comm, mul-left-comm) in
-    omega arith
+part x y u n s h k = omega (arith, mul-le-mul-left s h)
 
 module _ (p n den : ℕ) (P : 0 < p) (D : 0 < den) (normal : p ≤ size (n / den)) where
   unit : kept p n den * (den * 2 ^ drop p n den) ≡ kept p n den * 2 ^ drop p n den * den
-  unit = simp (mul-assoc, mul-comm, mul-left-comm)
+  unit = omega arith
 
   below : 2 ^ (p - 1) * (den * 2 ^ drop p n den) ≤ n
   below =
       le-trans (le-of-eq (simp (pow-add, mul-assoc, mul-comm, mul-left-comm)))
-      (le-div-iff-mul-le D .0 (size-reaches (n / den) (p - 1 + drop p n den) (digits (size (n / den)) p P normal)))
+      (le-div-iff-mul-le D .0 (size-reaches (n / den) (p - 1 + drop p n den) (omega arith)))
 
   twice : 2 ^ p ≡ 2 ^ (p - 1) * 2
-  twice = ap (λ (z : ℕ). 2 ^ z) (up p P) ∙ pow-suc 2 (p - 1)
-    where
-      up : (p : ℕ) → 0 < p → p ≡ suc (p - 1)
-      up p h = omega arith
+  twice = let e : p ≡ suc (p - 1) = omega arith in ap (λ (z : ℕ). 2 ^ z) e ∙ pow-suc 2 (p - 1)
 
   pub kept-near : (2 ^ p * (kept p n den * 2 ^ drop p n den * den) ≤ 2 ^ p * n + n) × (2 ^ p * n ≤ 2 ^ p * (kept p n den * 2 ^ drop p n den * den) + n)
   kept-near =

@@ -1,4 +1,4 @@
--- A test that every entry of a table passes, worked out once for the whole table, holds at each place. Assumes nothing.
+-- A test that every entry of a table passes, worked out once for the whole table, holds at each place.
 use mathlib.Core.Bool.{Bool, true, _&&_}
 use mathlib.Core.List.{List, [], _∷_}
 use Prim.Native.Nat.{ℕ, zero, suc, _<_}

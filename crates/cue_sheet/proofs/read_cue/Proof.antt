@@ -1,7 +1,7 @@
 -- `cue_sheet::read_cue` meets its contract. Assumes nothing.
 use mathlib.Core.Path.{sym, _∙_}
 use borrow.Author.Tests.{le-ltb, lt-ltb}
-use Rattle.refusal.proofs.Laws.{zero-of}
+use Rattle.refusal.proofs.ByNumber.{zero-of}
 use Rattle.cue_sheet.specs.CueLine.{onFields, readCue}
 use Rattle.cue_sheet.proofs.Questions.{line-knobs, line-refused, line-accepted}
 use borrow.Author.Needs.{needs}

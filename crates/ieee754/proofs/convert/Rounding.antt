@@ -1,4 +1,4 @@
--- Rounding to the nearest, a tie to the even one: a fraction as a program rounds it, and a whole number as a float, in either format. Assumes nothing.
+-- Rounding to the nearest, a tie to the even one: a fraction as a program rounds it, and a whole number as a float, in either format.
 use mathlib.Core.Path.{_≡_, ap, _∙_}
 use mathlib.Core.Bool.{false}
 use Prim.Native.Nat.{ℕ, suc, _+_, _-_, _*_, _/_, _%_, _^_, _≤_, _<_}

@@ -1,4 +1,4 @@
--- The order of the operations of IEEE 754-2019, 9.6, in which -0 comes before +0, by the tests that a program makes, at either width. Assumes nothing.
+-- The order of the operations of IEEE 754-2019, 9.6, in which -0 comes before +0, by the tests that a program makes, at either width.
 use borrow.Author.Tests.{not-false, lt-ltb, le-ltb, leb-true, leb-false}
 use mathlib.Core.Path.{_≡_, refl, sym, _∙_}
 use mathlib.Core.Bool.{Bool, true, false, not, cond, _&&_}

@@ -1,21 +1,19 @@
 -- A value put together from its digits and its place, in either format: q * 2 ^ k units of the smallest value, with all of the format's digits in use, have the
--- pattern k * hid + q. The leading digit adds one to the exponent's field, and so does a carry that makes q one digit longer. Assumes nothing.
-use borrow.Author.Tests.{le-ltb}
+-- pattern k * hid + q. The leading digit adds one to the exponent's field, and so does a carry that makes q one digit longer.
 use mathlib.Core.Path.{_≡_, sym, ap, _∙_}
 use mathlib.Core.Logic.{inl, inr}
-use mathlib.Core.Bool.{false, not}
-use Prim.Native.Nat.{ℕ, suc, _+_, _-_, _*_, _%_, _^_, _≤_, _<_}
-use native.Mathlib.Nat.{le-refl, eq-or-lt-of-le, mod-eq-of-lt, pow-succ'}
+use mathlib.Core.Bool.{false}
+use Prim.Native.Nat.{ℕ, suc, _+_, _-_, _*_, _^_, _≤_, _<_}
+use native.Mathlib.Nat.{le-refl, eq-or-lt-of-le, pow-succ'}
 use native.Mathlib.Omega.{arith}
-use lib.Dec.{T}
 use lib.Pow.{pow-pos, shl-shr}
-use lib.Ieee.{Format, prec, emax, low, size, units, hid, ones, top, ofBits, toBits, nanBits}
-use lib.Ieee.Bits.{ofBits-toBits, nanBits-above}
+use lib.Ieee.{Format, prec, emax, low, size, units, hid, ofBits, toBits}
+use lib.Ieee.Bits.{ofBits-toBits}
 use lib.Ieee.Exact.{units-val}
 use lib.Ieee.Fits.{two}
 use Rattle.ieee754.proofs.Formats.{twice-hid}
 use Rattle.ieee754.proofs.Numbers.{size-shifted}
-use Rattle.ieee754.proofs.Units.{units-fit, pattern, toBits-of-value}
+use Rattle.ieee754.proofs.SmallestUnits.{units-fit, pattern, toBits-of-value}
 
 pattern-full : (f : Format) (q k : ℕ) → hid f ≤ q → q < 2 ^ prec f → pattern f false (q * 2 ^ k) ≡ k * hid f + q
 pattern-full f q k lo hi =
@@ -38,9 +36,3 @@ packed-is f q k lo hi h =
     let is : toBits f x ≡ k * hid f + q =
     toBits-of-value f x false (q * 2 ^ k) (2 ^ low f) (pow-pos (low f)) (units-val f false q k h) ∙ rw (shl-shr (q * 2 ^ k) (low f)) (pattern-is f q k lo hi) in
     ap (ofBits f) (sym is) ∙ ofBits-toBits f x (units-fit f false q k hi h)
-
--- a pattern below the infinity's is no NaN's
-pub no-nan-bits : (f : Format) (n : ℕ) → n < ones f * hid f → T (not (nanBits f n))
-no-nan-bits f n h =
-    let small : n % top f ≡ n = mod-eq-of-lt (omega arith) in
-    rw (nanBits-above f n, small, le-ltb (ones f * hid f) n (omega arith)) tt

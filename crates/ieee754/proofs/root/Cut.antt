@@ -1,4 +1,4 @@
--- The root of a units cut to the digits that a format keeps, which is what `Root.rootOf` rounds; in either format. Assumes nothing.
+-- The root of a units cut to the digits that a format keeps, which is what `Root.rootOf` rounds; in either format.
 use borrow.Author.Tests.{le-leb, lt-leb}
 use mathlib.Core.Path.{_≡_, refl, sym, _∙_}
 use mathlib.Core.Bool.{false, cond}

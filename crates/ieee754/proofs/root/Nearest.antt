@@ -1,5 +1,5 @@
--- What `Root.sqrt` means, with no algorithm in it: of all the values of the format it is the one nearest to the root, and no other is as near. Assumes nothing.
-use mathlib.Core.Path.{_≡_, sym, ap, _∙_}
+-- What `Root.sqrt` means, with no algorithm in it: of all the values of the format it is the one nearest to the root, and no other is as near.
+use mathlib.Core.Path.{_≡_, ap, _∙_}
 use mathlib.Core.Bool.{true, false, true≢false}
 use Prim.Native.Nat.{ℕ, suc, _+_, _-_, _*_, _^_, _≤_, _<_, compare}
 use native.Mathlib.Nat.{le-trans, le-of-suc-le-suc, lt-of-lt-of-le, lt-of-not-le, not-le-of-lt, pow-succ'}
@@ -10,7 +10,6 @@ use lib.IntN.{ℤ}
 use lib.Dec.{T, ltb→lt, lt→ltb}
 use lib.Pow.{pow-add, pow-pos, pow-mono}
 use lib.Ieee.{Float, nan, inf, fin, Format, prec, emax, low, up, down, units, fits, lt, hid}
-use lib.Ieee.Digits.{back}
 use lib.Ieee.Exact.{HasValue, units-val}
 use lib.Ieee.Fits.{nearest-le}
 use lib.Ieee.Nearest.{nearest-ge}
@@ -18,22 +17,18 @@ use lib.Ieee.Positive.{num, den, positive, den-pos, value→cross, positive-of-v
 use Rattle.ieee754.specs.Root.{sqrt, total, RootBelowMiddle, RootAboveMiddle, NearestRoot}
 use Rattle.ieee754.proofs.Fields.{one-value}
 use Rattle.ieee754.proofs.Formats.{twice-hid, emax-two}
-use Rattle.ieee754.proofs.Numbers.{sq-lt-back, nearest-by}
-use Rattle.ieee754.proofs.Units.{InUnits, amount, in-units, units-fit, same-bits}
+use Rattle.ieee754.proofs.Numbers.{sq-lt-back, pow-split, nearest-by}
+use Rattle.ieee754.proofs.SmallestUnits.{InUnits, amount, in-units, units-fit, same-bits}
 use Rattle.ieee754.proofs.root.Cut.{Cut, half², rounded, rootOf-cut, cut-of}
 use Rattle.ieee754.proofs.root.Operand.{of-value}
 
 -- ---- whole numbers
 
--- 2 ^ b with the factor 2 ^ a taken out
-split : (a b : ℕ) → a ≤ b → 2 ^ b ≡ 2 ^ (b - a) * 2 ^ a
-split a b h = ap (λ (k : ℕ). 2 ^ k) (sym (back b a h)) ∙ pow-add 2 (b - a) a
-
 -- a number d * 2 ^ j above q * 2 ^ k, where d has no more digits than q, is a whole 2 ^ k above it
 gap : (h d j q k : ℕ) → d < 2 * h → h ≤ q → q * 2 ^ k < d * 2 ^ j → suc q * 2 ^ k ≤ d * 2 ^ j
 gap h d j q k small full l = elim (decLe k j) [
   | yes g ↦
-      let e : d * 2 ^ j ≡ d * 2 ^ (j - k) * 2 ^ k = rw (split k j g) (omega arith) in
+      let e : d * 2 ^ j ≡ d * 2 ^ (j - k) * 2 ^ k = rw (pow-split k j g) (omega arith) in
       let m : q < d * 2 ^ (j - k) = lt-of-mul-lt-mul-right (2 ^ k) (omega arith) in
       omega (arith, mul-le-mul-right (2 ^ k) m)
   | no g ↦
@@ -46,12 +41,12 @@ no-tie : (m i q k : ℕ) → m < 2 * q + 1 → m * 2 ^ i ≡ (2 * q + 1) * (2 * 
 no-tie m i q k small e = elim (decLe i k) [
   | yes g ↦
       let o = (2 * q + 1) * (2 * q + 1) in
-      let d : m ≡ o * 2 ^ (k - i) = eq-of-mul-eq-mul-right (2 ^ i) (pow-pos i) m (o * 2 ^ (k - i)) (e ∙ rw (split i k g) (omega arith)) in
+      let d : m ≡ o * 2 ^ (k - i) = eq-of-mul-eq-mul-right (2 ^ i) (pow-pos i) m (o * 2 ^ (k - i)) (e ∙ rw (pow-split i k g) (omega arith)) in
       omega (arith, le-mul-of-pos-right o (pow-pos (k - i)))
   | no g ↦
       let o = (2 * q + 1) * (2 * q + 1) in
       let t = i - suc k in
-      let p : 2 ^ i ≡ 2 ^ t * 2 * 2 ^ k = split (suc k) i (omega arith) ∙ rw (pow-succ' 2 k) (omega arith) in
+      let p : 2 ^ i ≡ 2 ^ t * 2 * 2 ^ k = pow-split (suc k) i (omega arith) ∙ rw (pow-succ' 2 k) (omega arith) in
       let d : m * 2 ^ t * 2 ≡ o = eq-of-mul-eq-mul-right (2 ^ k) (pow-pos k) (m * 2 ^ t * 2) o (omega (arith, ap (λ (z : ℕ). m * z) p)) in
       omega arith
 ]

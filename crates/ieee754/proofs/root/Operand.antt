@@ -1,4 +1,4 @@
--- `Root.sqrt` by what a program finds out about its operand. Assumes nothing.
+-- `Root.sqrt` by what a program finds out about its operand.
 use borrow.Author.Tests.{ne-eqb}
 use mathlib.Core.Path.{_≡_, refl, sym, ap, _∙_}
 use mathlib.Core.Bool.{Bool, true, false, true≢false, false≢true}

@@ -1,4 +1,4 @@
--- `units::semitones_to_ratio` meets its contract. Assumes nothing.
+-- The laws of `Accuracy`, for each of the two answers; both places are below 256.
 use lib.Ieee.{ofBits, round}
 use borrow.Author.Needs.{needs}
 use Rattle.units.proofs.Accuracy.{refused, integral-small, looked-up}
@@ -18,9 +18,10 @@ cast-high c =
 returns-2 : tie.Need-returns-2
 unfolding round ofBits
 returns-2 c =
-    let start = c .before .before .before .before in
+    let steps = c .before .before in
+    let start = steps .before .before in
     looked-up (start .before .args .semitones) (start .if1 .left) _
-    (rw (c .low .ensures, c .before .high .ensures, c .before .before .truncate-usize2 .ensures, c .before .before .before .truncate-usize .ensures))
+    (rw (c .low .ensures, c .before .high .ensures, steps .truncate-usize2 .ensures, steps .before .truncate-usize .ensures))
 
 pub semitones-to-ratio-spec : {M : Type 1} → statement M
 semitones-to-ratio-spec =

@@ -1,4 +1,4 @@
--- `utils::soft_clip` meets its contract. Assumes nothing.
+-- Each branch is an arm of the definition; the literals agree by computing.
 use borrow.Author.Needs.{needs}
 use lib.Ieee.{round, ofBits}
 use Rattle.utils.specs.Utils.{softClip}

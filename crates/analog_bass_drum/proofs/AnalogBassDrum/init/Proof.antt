@@ -1,7 +1,7 @@
 -- `analog_bass_drum::AnalogBassDrum::init` meets its contract. Assumes nothing.
 use borrow.Author.Needs.{needs}
 use mathlib.Core.Path.{sym, _∙_}
-use Rattle.refusal.proofs.Laws.{arm-accepted, arm-refused}
+use Rattle.refusal.proofs.ByNumber.{arm-accepted, arm-refused}
 use Rattle.analog_bass_drum.proofs.AnalogBassDrum.init.Statement.{statement}
 use Rattle.analog_bass_drum.proofs.AnalogBassDrum.init.Tie as tie
 

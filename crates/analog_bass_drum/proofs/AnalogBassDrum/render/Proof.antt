@@ -1,7 +1,7 @@
 -- `analog_bass_drum::AnalogBassDrum::render` meets its contract. Assumes nothing.
 use borrow.Author.Needs.{needs}
 use mathlib.Core.Path.{sym}
-use Rattle.refusal.proofs.Laws.{zero-of, arm-accepted, arm-refused}
+use Rattle.refusal.proofs.ByNumber.{zero-of, arm-accepted, arm-refused}
 use Rattle.analog_bass_drum.proofs.Laws.{knobs-in}
 use Rattle.analog_bass_drum.proofs.AnalogBassDrum.render.Statement.{statement}
 use Rattle.analog_bass_drum.proofs.AnalogBassDrum.render.Tie as tie

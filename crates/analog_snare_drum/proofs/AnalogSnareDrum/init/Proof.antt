@@ -1,7 +1,7 @@
 -- `analog_snare_drum::AnalogSnareDrum::init` meets its contract. Assumes nothing.
 use borrow.Author.Needs.{needs}
 use mathlib.Core.Path.{sym, _∙_}
-use Rattle.refusal.proofs.Laws.{arm-accepted, arm-refused}
+use Rattle.refusal.proofs.ByNumber.{arm-accepted, arm-refused}
 use Rattle.analog_snare_drum.proofs.AnalogSnareDrum.init.Statement.{statement}
 use Rattle.analog_snare_drum.proofs.AnalogSnareDrum.init.Tie as tie
 

@@ -1,7 +1,7 @@
 -- `analog_snare_drum::AnalogSnareDrum::render` meets its contract. Assumes nothing.
 use borrow.Author.Needs.{needs}
 use mathlib.Core.Path.{sym, ap}
-use Rattle.refusal.proofs.Laws.{zero-of, arm-accepted, arm-refused}
+use Rattle.refusal.proofs.ByNumber.{zero-of, arm-accepted, arm-refused}
 use Rattle.analog_snare_drum.specs.declared.Sounding.{Sounding}
 use Rattle.analog_snare_drum.proofs.Laws.{knobs-in}
 use Rattle.analog_snare_drum.proofs.AnalogSnareDrum.render.Statement.{statement}

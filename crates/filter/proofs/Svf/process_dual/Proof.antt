@@ -1,12 +1,9 @@
--- `filter::Svf::process_dual` meets its contract. Assumes nothing.
+-- The definition, of what `passed` gives and `output` chooses twice.
 use borrow.Author.Needs.{needs}
 use Rattle.filter.specs.Svf.{processDual}
 use Rattle.filter.proofs.Svf.process_dual.Statement.{statement}
 use Rattle.filter.proofs.Svf.process_dual.Tie as tie
 
-returns : tie.Need-returns
-unfolding processDual
-returns c = rw (c .output2 .ensures, c .before .output .ensures, c .before .before .before .passed .ensures)
-
 pub process-dual-spec : {M : Type 1} → statement M
-process-dual-spec = tie.close (tie.spec (λ c κs. search needs) (λ c κs. search needs) (λ c κs. search needs) returns)
+unfolding processDual
+process-dual-spec = tie.close (tie.spec (λ c κs. search needs) (λ c κs. search needs) (λ c κs. search needs) (λ c. cc))

@@ -1,5 +1,5 @@
--- `filter::Svf::process_mut` meets its contract: a walk of its code by hand. The borrow is opened, the filter is copied out and passed to `process` by value, the filter
--- that comes back is stored in its place, and the borrow is closed. Of `process` the proof knows only that it meets its contract. Assumes nothing.
+-- A walk of the code by hand: the borrow is opened, the filter is copied out and passed to `process` by value, the filter that comes back is stored in its
+-- place, and the borrow is closed. Of `process` the proof knows only its contract.
 use mathlib.Core.Path.{_≡_, refl, ap}
 use Prim.Native.Nat.{ℕ}
 use mathlib.Core.Bool.{true}

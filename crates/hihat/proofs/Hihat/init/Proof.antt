@@ -1,7 +1,7 @@
 -- `hihat::Hihat::init` meets its contract. Assumes nothing.
 use borrow.Author.Needs.{needs}
 use mathlib.Core.Path.{sym, _∙_}
-use Rattle.refusal.proofs.Laws.{arm-accepted, arm-refused}
+use Rattle.refusal.proofs.ByNumber.{arm-accepted, arm-refused}
 use Rattle.hihat.proofs.Hihat.init.Statement.{statement}
 use Rattle.hihat.proofs.Hihat.init.Tie as tie
 

@@ -1,7 +1,7 @@
 -- `hihat::Hihat::render` meets its contract. Assumes nothing.
 use borrow.Author.Needs.{needs}
 use mathlib.Core.Path.{sym}
-use Rattle.refusal.proofs.Laws.{zero-of, arm-accepted, arm-refused}
+use Rattle.refusal.proofs.ByNumber.{zero-of, arm-accepted, arm-refused}
 use Rattle.hihat.proofs.Laws.{accepted}
 use Rattle.hihat.proofs.Hihat.render.Statement.{statement}
 use Rattle.hihat.proofs.Hihat.render.Tie as tie

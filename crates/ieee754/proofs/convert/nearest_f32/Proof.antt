@@ -1,4 +1,4 @@
--- `ieee754::nearest_f32` meets its contract. Assumes nothing.
+-- n with its leading digit at bit 31, without its last byte, is n rounded (`Rounding`).
 use borrow.Author.Needs.{needs}
 use mathlib.Core.Path.{_≡_, sym}
 use Prim.Native.Nat.{ℕ, suc, _+_, _-_, _*_, _/_, _%_, _^_, _≤_, _<_, compare}
@@ -35,12 +35,6 @@ returns : tie.Need-returns
 unfolding ofBits ofInt
 returns c = rw (c .if1 .taken)
 
-sub-packed : tie.Need-sub-packed
-sub-packed c = omega (arith, lead c .1)
-
-shl-without-last-byte : tie.Need-shl-without-last-byte
-shl-without-last-byte c = omega (arith, lead c .1)
-
 packed-requires : tie.Need-packed-requires
 packed-requires c κs =
     let m = n (c .before) * 2 ^ z (c .before) in
@@ -56,4 +50,4 @@ returns-2 c =
     (sym (ofInt-packed binary32 32 (z b) (lead b .0) (n b) (lit≤ tt) (lead b .1) (lead b .2) (lead b .3)))
 
 pub nearest-f32-spec : {M : Type 1} → statement M
-nearest-f32-spec = tie.close (tie.spec returns sub-packed shl-without-last-byte (λ c κs. search needs) packed-requires returns-2)
+nearest-f32-spec = tie.close (tie.spec returns (λ c. omega (arith, lead c .1)) (λ c. omega (arith, lead c .1)) (λ c κs. search needs) packed-requires returns-2)

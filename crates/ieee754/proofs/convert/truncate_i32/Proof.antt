@@ -1,7 +1,8 @@
--- `ieee754::truncate_i32` meets its contract: the whole part of x or of -x, held at an end of the range. Assumes nothing.
+-- The whole part of x or of -x, held at an end of the range.
 use borrow.Author.Needs.{needs}
-use mathlib.Core.Path.{_≡_, sym, _∙_}
+use mathlib.Core.Path.{_≡_, _∙_}
 use Prim.Native.Nat.{ℕ, zero, suc, _-_, _^_, _<_, min}
+use native.Mathlib.Nat.{le-of-lt, min-eq-left, min-eq-right}
 use native.Mathlib.Omega.{arith}
 use lib.Dec.{lit≤, lit<}
 use lib.IntN.{pos, negℤ, _-ℤ_, +ℤ-idl}
@@ -16,12 +17,12 @@ use Rattle.ieee754.proofs.convert.truncate_i32.Tie as tie
 -- x is below 0
 minus : (c : tie.After-truncate-u64) → toSigned 31 (c .before .before .args .x) ≡ negℤ (pos (min (c .truncate-u64 .result) (2 ^ 31)))
 unfolding ofBits
-minus c = rw (c .truncate-u64 .ensures) (signed-minus 31 64 (c .before .before .args .x) (lit< tt) (c .before .if1 .taken))
+minus c = rw (c .truncate-u64 .ensures) (signed-minus 31 64 _ (lit< tt) (c .before .if1 .taken))
 
 -- x is not below 0
 plus : (c : tie.After-truncate-u642) → toSigned 31 (c .before .before .args .x) ≡ pos (min (c .truncate-u642 .result) (2 ^ 31 - 1))
 unfolding ofBits
-plus c = rw (c .truncate-u642 .ensures) (signed-plus 31 64 (c .before .before .args .x) (lit≤ tt) (c .before .if1 .left))
+plus c = rw (c .truncate-u642 .ensures) (signed-plus 31 64 _ (lit≤ tt) (c .before .if1 .left))
 
 -- 0 - n, as the machine works it out
 negated : (n : ℕ) → n < 2 ^ 31 → pos 0 -ℤ toZ w32 n ≡ negℤ (pos n)
@@ -35,31 +36,21 @@ negated-fits n h = rw (negated n h) (go n h)
     go (suc n) h = record { sfits = omega arith }
 
 returns : tie.Need-returns
-returns c =
-    let held : min (c .before .truncate-u64 .result) (2 ^ 31) ≡ 2 ^ 31 = omega (arith, c .if2 .taken) in
-    sym (minus (c .before) ∙ rw held)
-
-sub-result : tie.Need-sub-result
-sub-result c = negated-fits (c .before .truncate-u64 .result) (c .if2 .left)
+returns c = rw (minus (c .before), min-eq-right (c .if2 .taken))
 
 returns-2 : tie.Need-returns-2
-returns-2 c =
-    let held : min (c .before .truncate-u642 .result) (2 ^ 31 - 1) ≡ 2 ^ 31 - 1 = omega (arith, c .if3 .taken) in
-    sym (plus (c .before) ∙ rw held)
+returns-2 c = rw (plus (c .before), min-eq-right (le-of-lt (c .if3 .taken)))
 
 returns-3 : tie.Need-returns-3
 returns-3 c =
-    let n = c .before .truncate-u64 .result in
-    let kept : min n (2 ^ 31) ≡ n = omega (arith, c .if2 .left) in
-    toZ-ofZ w32 (pos 0 -ℤ toZ w32 n) (negated-fits n (c .if2 .left)) ∙ negated n (c .if2 .left) ∙ sym (minus (c .before) ∙ rw kept)
+    let h = c .if2 .left in
+    rw (minus (c .before), min-eq-left (le-of-lt h)) (toZ-ofZ w32 _ (negated-fits _ h) ∙ negated _ h)
 
 returns-4 : tie.Need-returns-4
-returns-4 c =
-    let n = c .before .truncate-u642 .result in
-    let kept : min n (2 ^ 31 - 1) ≡ n = omega (arith, c .if3 .left) in
-    toZ-pos w32 n (omega (arith, c .if3 .left)) ∙ sym (plus (c .before) ∙ rw kept)
+returns-4 c = rw (plus (c .before), min-eq-left (c .if3 .left)) (toZ-pos w32 _ (omega (arith, c .if3 .left)))
 
 pub truncate-i32-spec : {M : Type 1} → statement M
 truncate-i32-spec =
     tie.close
-    (tie.spec (λ c κs. search needs) returns (λ c. search needs) sub-result (λ c κs. search needs) returns-2 (λ c. search needs) returns-3 returns-4)
+    (tie.spec (λ c κs. search needs) returns (λ c. search needs) (λ c. negated-fits _ (c .if2 .left)) (λ c κs. search needs) returns-2
+    (λ c. search needs) returns-3 returns-4)

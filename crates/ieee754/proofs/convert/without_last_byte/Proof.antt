@@ -1,4 +1,4 @@
--- `ieee754::without_last_byte` meets its contract. Assumes nothing.
+-- The laws of `Rounding` for a quotient by 256; the masks are remainders.
 use borrow.Author.Needs.{needs}
 use mathlib.Core.Path.{sym}
 use Prim.Native.Nat.{_/_}

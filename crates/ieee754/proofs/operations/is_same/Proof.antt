@@ -1,4 +1,4 @@
--- `ieee754::is_same` meets its contract: a pattern that fits is read back as the value. Assumes nothing.
+-- A pattern that fits is read back as the value.
 use borrow.Author.Needs.{needs}
 use borrow.Author.Tests.{eqb-true, eq-eqb}
 use mathlib.Core.Path.{ap}
@@ -11,7 +11,7 @@ returns : tie.Need-returns
 returns c =
     let s = c .before .before in
     rw (c .before .to-bits .ensures, c .to-bits2 .ensures)
-    (λ h. one-value binary32 (s .args .x) (s .args .y) (rw (s .good .0 .1) tt) (rw (s .good .1 .0 .1) tt) (eqb-true _ _ h), λ h. eq-eqb _ _ (ap (toBits binary32) h))
+    (λ h. one-value binary32 _ _ (rw (s .good .0 .1) tt) (rw (s .good .1 .0 .1) tt) (eqb-true _ _ h), λ h. eq-eqb _ _ (ap (toBits binary32) h))
 
 pub is-same-spec : {M : Type 1} → statement M
 is-same-spec = tie.close (tie.spec (λ c κs. search needs) (λ c κs. search needs) returns)

@@ -1,4 +1,4 @@
--- `ieee754::precedes` meets its contract. Assumes nothing.
+-- The definition's tests; of equal numbers -0 alone has the larger pattern.
 use borrow.Author.Tests.{not-true}
 use lib.Ieee.{binary32, eq, ne}
 use Rattle.ieee754.specs.Operations.{precedes}
@@ -16,20 +16,10 @@ returns-2 c =
     let a = c .before .before .args in
     simp (c .before .if1 .left, not-true (eq (a .x) (a .y)) (c .if2 .taken))
 
-float-to-bits-result : tie.Need-float-to-bits-result
-float-to-bits-result c =
-    let a = c .before .before .args in
-    second-number (a .x) (a .y) (c .if2 .left)
-
-float-to-bits-result-2 : tie.Need-float-to-bits-result-2
-float-to-bits-result-2 c =
-    let a = c .before .before .args in
-    first-number (a .x) (a .y) (c .if2 .left)
-
 returns-3 : tie.Need-returns-3
 returns-3 c =
     let s = c .before .before in
-    zeros-in-order (s .args .x) (s .args .y) (c .if2 .left) binary32 (rw (s .good .0 .1) tt) (rw (s .good .1 .0 .1) tt) (c .before .if1 .left)
+    zeros-in-order _ _ (c .if2 .left) binary32 (rw (s .good .0 .1) tt) (rw (s .good .1 .0 .1) tt) (c .before .if1 .left)
 
 pub precedes-spec : {M : Type 1} → statement M
-precedes-spec = tie.close (tie.spec returns returns-2 float-to-bits-result float-to-bits-result-2 returns-3)
+precedes-spec = tie.close (tie.spec returns returns-2 (λ c. second-number _ _ (c .if2 .left)) (λ c. first-number _ _ (c .if2 .left)) returns-3)

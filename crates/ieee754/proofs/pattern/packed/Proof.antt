@@ -1,13 +1,14 @@
--- `ieee754::packed` meets its contract. Assumes nothing.
+-- The law of `Pack`: nothing is shifted out, and the pattern is no NaN's.
 use borrow.Author.Needs.{needs}
 use mathlib.Core.Path.{_≡_}
-use Prim.Native.Nat.{_+_, _*_, _%_, _^_, _<_}
+use Prim.Native.Nat.{_+_, _*_, _%_, _^_, _≤_, _<_}
 use native.Mathlib.Nat.{lt-of-le-of-lt, mul-le-mul}
 use native.Mathlib.Omega.{arith}
-use lib.Dec.{lit<}
+use lib.Dec.{lit<, le→leb}
 use lib.Pow.{pow-mono}
 use lib.Ieee.{binary32}
-use Rattle.ieee754.proofs.pattern.Pack.{packed-is, no-nan-bits}
+use Rattle.ieee754.proofs.NotANumber.{number-bits}
+use Rattle.ieee754.proofs.pattern.Pack.{packed-is}
 use Rattle.ieee754.proofs.pattern.packed.Statement.{statement}
 use Rattle.ieee754.proofs.pattern.packed.Tie as tie
 
@@ -16,7 +17,10 @@ unshifted : (c : tie.Start) → let k = c .args .place in k * 2 ^ 23 % 2 ^ 32 �
 unshifted c = omega arith
 
 float-from-bits-result : tie.Need-float-from-bits-result
-float-from-bits-result c = rw (unshifted c) (no-nan-bits binary32 (c .args .place * 2 ^ 23 + c .args .digits) (omega arith))
+float-from-bits-result c =
+    let n = c .args .place * 2 ^ 23 + c .args .digits in
+    let h : n % 2 ^ 31 ≤ 2139095040 = omega arith in
+    rw (unshifted c, ← number-bits n) (le→leb _ _ h)
 
 returns : tie.Need-returns
 returns c =

@@ -1,4 +1,4 @@
--- `ieee754::extract_root` meets its contract. At the loop's head `root` is not below the root without its fraction. Assumes nothing.
+-- Heron's rule: at the loop's head `root` is not below the root without its fraction.
 use borrow.Author.Needs.{needs}
 use mathlib.Core.Path.{_≡_}
 use Prim.Native.Nat.{ℕ, suc, _+_, _-_, _*_, _/_, _^_, _<_}
@@ -27,12 +27,6 @@ guess-quotient n h = div-lt-iff-lt-mul {k = guess n} (omega arith) .1 (omega ari
 better-quotient : (n : ℕ) → n < 2 ^ 48 → n / better n < 2 ^ 27
 better-quotient n h = div-lt-iff-lt-mul {k = better n} (omega arith) .1 (omega arith)
 
-add-better : tie.Need-add-better Inv-loop μ-loop
-add-better c = omega (arith, guess-quotient (c .args .n) (c .pre))
-
-div-root : tie.Need-div-root Inv-loop μ-loop
-div-root c = omega arith
-
 add-root : tie.Need-add-root Inv-loop μ-loop
 add-root c = omega (arith, guess-quotient (c .args .n) (c .pre), better-quotient (c .args .n) (c .pre))
 
@@ -48,12 +42,6 @@ mul-loop c = let h = c .loop .inv .0 in omega (arith, mul-le-mul h h)
 some : (c : tie.In-loop Inv-loop μ-loop) → 0 < c .before .loop .root
 some c = sq-lt-back {a = 0} (omega (arith, c .loop-test .taken))
 
-sub-root : tie.Need-sub-root Inv-loop μ-loop
-sub-root c = some c
-
-loop-less : tie.Need-loop-less Inv-loop μ-loop
-loop-less c = omega (arith, some c)
-
 loop-again : tie.Need-loop-again Inv-loop μ-loop
 loop-again c =
     let one : suc (c .before .loop .root - 1) ≡ c .before .loop .root = omega (arith, some c) in
@@ -62,11 +50,8 @@ loop-again c =
 mul-t5 : tie.Need-mul-t5 Inv-loop μ-loop
 mul-t5 c = let h = c .before .loop .inv .0 in omega (arith, mul-le-mul h h)
 
-returns : tie.Need-returns Inv-loop μ-loop
-returns c = omega arith
-
 pub extract-root-spec : {M : Type 1} → statement M
 extract-root-spec =
     tie.close
-    (tie.spec Inv-loop μ-loop (λ c. search needs) (λ c. search needs) add-better div-root add-root loop-holds mul-loop sub-root loop-less loop-again
-    mul-t5 (λ c. search needs) returns)
+    (tie.spec Inv-loop μ-loop (λ c. search needs) (λ c. search needs) (λ c. omega (arith, guess-quotient (c .args .n) (c .pre))) (λ c. search needs)
+    add-root loop-holds mul-loop some (λ c. omega (arith, some c)) loop-again mul-t5 (λ c. search needs) (λ c. search needs))

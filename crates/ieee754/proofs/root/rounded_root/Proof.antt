@@ -1,4 +1,4 @@
--- `ieee754::rounded_root` meets its contract. The radicand has 47 or 48 digits, so its root has 24. Assumes nothing.
+-- The radicand has 47 or 48 digits, so its root has 24; the laws of `Cut` round it.
 use borrow.Author.Needs.{needs}
 use mathlib.Core.Path.{_≡_, sym, ap, _∙_}
 use Prim.Native.Nat.{ℕ, _+_, _*_, _/_, _%_, _^_, _≤_, _<_}
@@ -60,20 +60,8 @@ module _ (c : tie.After-extract-root) where
   squared : (a : ℕ) → a * 2 ^ 126 ≡ c .before .args .digits * 2 ^ w (c .before) → a * 2 ^ 149 ≡ (root * root + rest) * (2 ^ (w (c .before) / 2) * 2 ^ (w (c .before) / 2))
   squared a h = rw is (scaled (c .before) a h)
 
-extract-root-requires : tie.Need-extract-root-requires
-extract-root-requires c κs = rw (whole c) (rad-lt c)
-
-cast-packed : tie.Need-cast-packed
-cast-packed c = omega (arith, root-lt (c .before))
-
 packed-requires : tie.Need-packed-requires
 packed-requires c κs = omega (arith, root-lt (c .before), root-ge (c .before), c .before .before .pre .0)
-
-add-packed : tie.Need-add-packed
-add-packed c = omega (arith, root-lt (c .before))
-
-cast-packed-2 : tie.Need-cast-packed-2
-cast-packed-2 c = omega (arith, root-lt (c .before))
 
 packed-requires-2 : tie.Need-packed-requires-2
 packed-requires-2 c κs = omega (arith, root-lt (c .before), root-ge (c .before), c .before .before .pre .0)
@@ -81,17 +69,16 @@ packed-requires-2 c κs = omega (arith, root-lt (c .before), root-ge (c .before)
 returns : tie.Need-returns
 returns c a h =
     let x = c .before .before in
-    rw (c .packed .ensures)
-    (sym (rounds-down binary32 a (w (x .before) / 2) (root x) (rest x) (squared x a h) (x .extract-root .ensures .1) (root-ge x) (root-lt x) (c .before .if1 .taken)))
+    rw (c .packed .ensures) (sym (rounds-down binary32 a _ _ _ (squared x a h) (x .extract-root .ensures .1) (root-ge x) (root-lt x) (c .before .if1 .taken)))
 
 returns-2 : tie.Need-returns-2
 returns-2 c a h =
     let x = c .before .before in
     rw (c .packed2 .ensures, add-one)
-    (sym (rounds-up binary32 a (w (x .before) / 2) (root x) (rest x) (squared x a h) (x .extract-root .ensures .1) (root-ge x) (root-lt x) (c .before .if1 .left)))
+    (sym (rounds-up binary32 a _ _ _ (squared x a h) (x .extract-root .ensures .1) (root-ge x) (root-lt x) (c .before .if1 .left)))
 
 pub rounded-root-spec : {M : Type 1} → statement M
 rounded-root-spec =
     tie.close
-    (tie.spec (λ c. search needs) (λ c. search needs) (λ c. search needs) extract-root-requires cast-packed packed-requires add-packed cast-packed-2
-    packed-requires-2 returns returns-2)
+    (tie.spec (λ c. search needs) (λ c. search needs) (λ c. search needs) (λ c κs. rw (whole c) (rad-lt c)) (λ c. omega (arith, root-lt (c .before)))
+    packed-requires (λ c. omega (arith, root-lt (c .before))) (λ c. omega (arith, root-lt (c .before))) packed-requires-2 returns returns-2)

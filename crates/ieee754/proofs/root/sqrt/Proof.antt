@@ -1,4 +1,4 @@
--- `ieee754::sqrt` meets its contract. Assumes nothing.
+-- The operands of `Operand`, one by one; a value above 0 is a significand at its place, a subnormal one moved up to it.
 use borrow.Author.Needs.{needs}
 use borrow.Author.Tests.{le-leb}
 use mathlib.Core.Path.{_≡_, sym, ap, _∙_}
@@ -19,57 +19,53 @@ use Rattle.ieee754.proofs.root.Operand.{of-nan, of-zero, of-minus, of-i
 use Rattle.ieee754.proofs.root.sqrt.Statement.{statement}
 use Rattle.ieee754.proofs.root.sqrt.Tie as tie
 
-held : (c : tie.Start) → T (fits binary32 (c .args .x))
-held c = rw (c .good .0 .1) tt
+held : (c : tie.Else1) → T (fits binary32 (c .before .args .x))
+held c = rw (c .before .good .0 .1) tt
 
 number : (c : tie.Else1) → T (not (isNan (c .before .args .x)))
-number c = no-nan (c .before .args .x) (c .if1 .left)
+number c = no-nan _ (c .if1 .left)
 
 returns : tie.Need-returns
-returns c = of-nan binary32 (c .before .args .x) (is-nan (c .before .args .x) (c .if1 .taken))
+returns c = of-nan binary32 _ (is-nan _ (c .if1 .taken))
 
 returns-2 : tie.Need-returns-2
 unfolding ofBits
-returns-2 c = of-zero binary32 (c .before .before .args .x) (c .if2 .taken)
-
-float-to-bits-bits : tie.Need-float-to-bits-bits
-float-to-bits-bits c = number (c .before)
+returns-2 c = of-zero binary32 _ (c .if2 .taken)
 
 returns-3 : tie.Need-returns-3
 unfolding ofBits div
 returns-3 c =
-    let s = c .before .before .before in
-    let minus = sign-bit binary32 (s .args .x) (held s) (number (c .before .before)) ∙ le-leb _ _ (c .if3 .taken) in
-    sym (of-minus binary32 (s .args .x) minus (c .before .if2 .left))
+    let n = c .before .before in
+    sym (of-minus binary32 _ (sign-bit binary32 _ (held n) (number n) ∙ le-leb _ _ (c .if3 .taken)) (c .before .if2 .left))
 
 returns-4 : tie.Need-returns-4
 returns-4 c =
-    let s = c .before .before .before .before in
-    of-infinity binary32 (s .args .x) (infinite binary32 (s .args .x) (held s) (c .before .if3 .left) (number (c .before .before .before)) (omega (arith, c .if4 .taken)))
+    let n = c .before .before .before in
+    of-infinity binary32 _ (infinite binary32 _ (held n) (c .before .if3 .left) (number n) (omega arith))
 
 -- x is above 0 and finite
-some : (c : tie.Else2) → 0 < toBits binary32 (c .before .before .args .x)
+abbrev x : tie.Else4 → Float
+x c = c .before .before .before .before .args .x
+
+abbrev bits : tie.Else4 → ℕ
+bits c = toBits binary32 (x c)
+
+some : (c : tie.Else4) → 0 < bits c
 unfolding ofBits eq
 some c =
-    let x = c .before .before .args .x in
+    let n = c .before .before in
     pos-of-ne-zero (λ e.
-    let zero : x ≡ ofBits binary32 0 = sym (ofBits-toBits binary32 x (held (c .before .before))) ∙ ap (ofBits binary32) e in
-    true≢false (rw zero at (c .if2 .left)))
+    let zero : x c ≡ ofBits binary32 0 = sym (ofBits-toBits binary32 (x c) (held (n .before))) ∙ ap (ofBits binary32) e in
+    true≢false (rw zero at (n .if2 .left)))
 
-units-of : (c : tie.Else4) → let x = c .before .before .before .before .args .x in let b = toBits binary32 x in
-    HasValue x false (significand binary32 (b / 2 ^ 23) (b % 2 ^ 23) * 2 ^ (b / 2 ^ 23 - 1)) (2 ^ 149)
-units-of c =
-    let s = c .before .before .before .before in
-    value binary32 (s .args .x) (held s) (c .before .if3 .left) (omega (arith, c .if4 .left))
+units-of : (c : tie.Else4) → let e = bits c / 2 ^ 23 in HasValue (x c) false (significand binary32 e (bits c % 2 ^ 23) * 2 ^ (e - 1)) (2 ^ 149)
+units-of c = let n = c .before .before .before in value binary32 _ (held n) (c .before .if3 .left) (omega arith)
 
 -- ---- a subnormal x is b units, and its leading digit moves to bit 23
 
 module _ (c : tie.Then5) where
-  abbrev x : Float
-  x = c .before .before .before .before .before .args .x
-
   abbrev b : ℕ
-  b = toBits binary32 x
+  b = bits (c .before)
 
   abbrev z : ℕ
   z = leadingZeros 32 b
@@ -78,7 +74,7 @@ module _ (c : tie.Then5) where
   small = omega (arith, c .if5 .taken)
 
   lead : (j : ℕ) × (z + suc j ≡ 32) × (2 ^ j ≤ b) × (b < 2 ^ suc j)
-  lead = leading-top 32 b (some (c .before .before .before)) (omega (arith, small))
+  lead = leading-top 32 b (some (c .before)) (omega (arith, small))
 
   zeros : 9 ≤ z
   zeros = let l : lead .0 < 23 = lt-of-not-le (λ (g : 23 ≤ lead .0). not-le-of-lt small (le-trans (pow-mono g) (lead .2))) in omega (arith, lead .1)
@@ -94,43 +90,29 @@ module _ (c : tie.Then5) where
       let e : 126 ≡ z - 8 + (134 - z) = omega (arith, zeros, lead .1) in
       ap (λ (k : ℕ). b * 2 ^ k) e ∙ rw (pow-add 2 (z - 8) (134 - z)) (sym (mul-assoc b (2 ^ (z - 8)) (2 ^ (134 - z))))
 
-  subnormal : sqrt binary32 x ≡ rootOf binary32 b
-  subnormal = of-value binary32 x b (some (c .before .before .before)) (rw (c .if5 .taken, mul-one, mod-eq-of-lt small) at (units-of (c .before)))
-
-sub-rounded-root : tie.Need-sub-rounded-root
-sub-rounded-root c = omega (arith, lead c .1)
-
-sub-rounded-root-2 : tie.Need-sub-rounded-root-2
-sub-rounded-root-2 c = omega (arith, zeros c)
-
-shl-rounded-root : tie.Need-shl-rounded-root
-shl-rounded-root c = omega (arith, lead c .1)
-
-rounded-root-requires : tie.Need-rounded-root-requires
-rounded-root-requires c κs = rw (whole c) (omega (arith, moved c))
+  subnormal : sqrt binary32 (x (c .before)) ≡ rootOf binary32 b
+  subnormal = of-value binary32 _ b (some (c .before)) (rw (c .if5 .taken, mul-one, mod-eq-of-lt small) at (units-of (c .before)))
 
 returns-5 : tie.Need-returns-5
 returns-5 c = c .rounded-root .ensures (b (c .before)) (rw (whole (c .before)) (places (c .before))) ∙ sym (subnormal (c .before))
 
 -- ---- a normal x
 
-rounded-root-requires-2 : tie.Need-rounded-root-requires-2
-rounded-root-requires-2 c κs = omega (arith, c .significand .ensures, c .before .before .if4 .left)
-
 returns-6 : tie.Need-returns-6
 returns-6 c =
-    let u = units-of (c .before .before .before) in
-    let bits = toBits binary32 (c .before .before .before .before .before .before .before .args .x) in
-    let e = bits / 2 ^ 23 in
-    let q = 2 ^ 23 + bits % 2 ^ 23 in
-    let some : 0 < e = pos-of-ne-zero (c .before .before .if5 .left) in
+    let normal = c .before .before in
+    let e = bits (normal .before) / 2 ^ 23 in
+    let t = bits (normal .before) % 2 ^ 23 in
+    let q = 2 ^ 23 + t in
     let places : q * 2 ^ (e - 1) * 2 ^ 126 ≡ q * 2 ^ (e + 125) =
     mul-assoc q (2 ^ (e - 1)) (2 ^ 126) ∙ ap (λ (k : ℕ). q * k) (sym (pow-add 2 (e - 1) 126)) ∙ ap (λ (k : ℕ). q * 2 ^ k) (omega arith) in
     c .rounded-root2 .ensures (q * 2 ^ (e - 1)) (rw (c .before .significand .ensures) places)
-    ∙ sym (of-value binary32 _ (q * 2 ^ (e - 1)) (mul-pos (omega arith) (pow-pos (e - 1))) (rw (significand-is binary32 e (bits % 2 ^ 23) some) at u))
+    ∙ sym (of-value binary32 _ (q * 2 ^ (e - 1)) (mul-pos (omega arith) (pow-pos (e - 1)))
+    (rw (significand-is binary32 e t (pos-of-ne-zero (normal .if5 .left))) at (units-of (normal .before))))
 
 pub sqrt-spec : {M : Type 1} → statement M
 sqrt-spec =
     tie.close
-    (tie.spec returns returns-2 float-to-bits-bits returns-3 returns-4 sub-rounded-root sub-rounded-root-2 shl-rounded-root rounded-root-requires
-    returns-5 (λ c. search needs) (λ c κs. search needs) rounded-root-requires-2 returns-6)
+    (tie.spec returns returns-2 (λ c. number (c .before)) returns-3 returns-4 (λ c. omega (arith, lead c .1)) (λ c. omega (arith, zeros c))
+    (λ c. omega (arith, lead c .1)) (λ c κs. rw (whole c) (omega (arith, moved c))) returns-5 (λ c. search needs) (λ c κs. search needs)
+    (λ c κs. omega (arith, c .significand .ensures, c .before .before .if4 .left)) returns-6)

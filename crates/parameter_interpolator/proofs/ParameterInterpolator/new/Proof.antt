@@ -1,10 +1,7 @@
--- `parameter_interpolator::ParameterInterpolator::new` meets its contract. Assumes nothing.
+-- The definition, of the size as a float.
 use borrow.Author.Needs.{needs}
 use Rattle.parameter_interpolator.proofs.ParameterInterpolator.new.Statement.{statement}
 use Rattle.parameter_interpolator.proofs.ParameterInterpolator.new.Tie as tie
 
-returns : tie.Need-returns
-returns c = rw (c .nearest-f32 .ensures)
-
 pub new-spec : {M : Type 1} → statement M
-new-spec = tie.close (tie.spec (λ c κs. search needs) returns)
+new-spec = tie.close (tie.spec (λ c κs. search needs) (λ c. rw (c .nearest-f32 .ensures)))

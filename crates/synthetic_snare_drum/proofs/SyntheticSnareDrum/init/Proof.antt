@@ -1,7 +1,7 @@
 -- `synthetic_snare_drum::SyntheticSnareDrum::init` meets its contract. Assumes nothing.
 use borrow.Author.Needs.{needs}
 use mathlib.Core.Path.{sym, _∙_}
-use Rattle.refusal.proofs.Laws.{arm-accepted, arm-refused}
+use Rattle.refusal.proofs.ByNumber.{arm-accepted, arm-refused}
 use Rattle.synthetic_snare_drum.proofs.SyntheticSnareDrum.init.Statement.{statement}
 use Rattle.synthetic_snare_drum.proofs.SyntheticSnareDrum.init.Tie as tie
 

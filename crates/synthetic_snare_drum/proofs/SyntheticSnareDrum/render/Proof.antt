@@ -1,7 +1,7 @@
 -- `synthetic_snare_drum::SyntheticSnareDrum::render` meets its contract. Assumes nothing.
 use borrow.Author.Needs.{needs}
 use mathlib.Core.Path.{sym}
-use Rattle.refusal.proofs.Laws.{zero-of, arm-accepted, arm-refused}
+use Rattle.refusal.proofs.ByNumber.{zero-of, arm-accepted, arm-refused}
 use Rattle.synthetic_snare_drum.proofs.Laws.{bounds-in}
 use Rattle.synthetic_snare_drum.proofs.SyntheticSnareDrum.render.Statement.{statement}
 use Rattle.synthetic_snare_drum.proofs.SyntheticSnareDrum.render.Tie as tie

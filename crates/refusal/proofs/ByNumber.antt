@@ -1,4 +1,4 @@
--- What the numbers show: each answer has its own, and a call is accepted exactly where every question is passed. Assumes nothing.
+-- What an answer's number shows: which answer it is, whether a call keeps the old value, and which questions were passed.
 use mathlib.Core.Path.{_≡_, refl, sym, ap, _∙_}
 use mathlib.Core.Bool.{Bool, true, false}
 use mathlib.Core.List.{[], _∷_}
@@ -13,63 +13,42 @@ use Rattle.refusal.specs.declared.Answer.{Answer}
 use Rattle.refusal.specs.declared.Answer.the-variants.{Accepted, Refused}
 use Rattle.refusal.specs.Refusal.{number, answerNumber, unlessRefused, ask, isBlockLength, isFrequency, isUnit, askKnobs, askBlock, KnobIn}
 
--- an answer is known by its number
-answerOf : ℕ → Answer
-answerOf n =
-    getD
-    (Accepted
-    ∷ Refused SampleRate
-    ∷ Refused BlockLength
-    ∷ Refused Frequency
-    ∷ Refused Accent
-    ∷ Refused Knob
-    ∷ Refused Pitch
-    ∷ Refused FirstLine
-    ∷ Refused CueLine
-    ∷ Refused CueStart
-    ∷ Refused CueCount
-    ∷ Refused BufferLength
-    ∷ [])
-    n Accepted
+-- the refusal of a number from 1 to 11
+refusalOf : ℕ → Refusal
+refusalOf n =
+    getD (Knob ∷ SampleRate ∷ BlockLength ∷ Frequency ∷ Accent ∷ Knob ∷ Pitch ∷ FirstLine ∷ CueLine ∷ CueStart ∷ CueCount ∷ BufferLength ∷ []) n Knob
 
-back : (a : Answer) → answerOf (answerNumber a) ≡ a
-unfolding answerOf
-back Accepted = refl
-back (Refused SampleRate) = refl
-back (Refused BlockLength) = refl
-back (Refused Frequency) = refl
-back (Refused Accent) = refl
-back (Refused Knob) = refl
-back (Refused Pitch) = refl
-back (Refused FirstLine) = refl
-back (Refused CueLine) = refl
-back (Refused CueStart) = refl
-back (Refused CueCount) = refl
-back (Refused BufferLength) = refl
-
-pub known-by-number : (a b : Answer) → answerNumber a ≡ answerNumber b → a ≡ b
-known-by-number a b e = sym (back a) ∙ ap answerOf e ∙ back b
+numbered : (r : Refusal) → (refusalOf (number r) ≡ r) × ((0 < number r) × (number r ≤ 11))
+unfolding refusalOf
+numbered SampleRate = (refl, omega arith)
+numbered BlockLength = (refl, omega arith)
+numbered Frequency = (refl, omega arith)
+numbered Accent = (refl, omega arith)
+numbered Knob = (refl, omega arith)
+numbered Pitch = (refl, omega arith)
+numbered FirstLine = (refl, omega arith)
+numbered CueLine = (refl, omega arith)
+numbered CueStart = (refl, omega arith)
+numbered CueCount = (refl, omega arith)
+numbered BufferLength = (refl, omega arith)
 
 -- a refusal's number is not 0, so an answer of number 0 is an accepted one; the highest is 11
 pub refused : (r : Refusal) → (0 < number r) × (number r ≤ 11)
-refused SampleRate = omega arith
-refused BlockLength = omega arith
-refused Frequency = omega arith
-refused Accent = omega arith
-refused Knob = omega arith
-refused Pitch = omega arith
-refused FirstLine = omega arith
-refused CueLine = omega arith
-refused CueStart = omega arith
-refused CueCount = omega arith
-refused BufferLength = omega arith
+refused r = numbered r .1
+
+-- no two answers share a number, so the contracts, which speak of numbers, determine the answer
+pub known-by-number : (a b : Answer) → answerNumber a ≡ answerNumber b → a ≡ b
+known-by-number Accepted Accepted e = refl
+known-by-number Accepted (Refused s) e = absurd (omega (arith, refused s .0))
+known-by-number (Refused r) Accepted e = absurd (omega (arith, refused r .0))
+known-by-number (Refused r) (Refused s) e = ap Refused (sym (numbered r .0) ∙ ap refusalOf e ∙ numbered s .0)
 
 -- the number of an accepted answer
 pub zero-of : (a : Answer) (n : ℕ) → answerNumber a ≡ n → a ≡ Accepted → n ≡ 0
 zero-of a n known e = sym known ∙ ap answerNumber e
 
 -- a call of any other number leaves the value as it was
-pub old-kept : {A : Type 0} (n : ℕ) (new old : A) → (n ≡ 0 → ⊥) → unlessRefused n new old ≡ old
+old-kept : {A : Type 0} (n : ℕ) (new old : A) → (n ≡ 0 → ⊥) → unlessRefused n new old ≡ old
 old-kept zero new old h = absurd (h refl)
 old-kept (suc n) new old h = refl
 

@@ -1,28 +1,28 @@
 -- The two places that a pitch p below 256 reads: i, which is p without its fraction, and j, which is 256 * (p - i) without its fraction.
 -- Both are below 256, so each table has an entry there. p - i and 256 * (p - i) are exact, so 256 * i + j is 256 * p without its fraction.
--- Where p has a minus sign or is a NaN, i and j are 0. The code takes j from 256 * p at once, as its remainder by 256. Assumes nothing.
+-- Where p has a minus sign or is a NaN, i and j are 0. The code takes j from 256 * p at once, as its remainder by 256.
 use mathlib.Core.Path.{_≡_, refl, sym, ap, _∙_, subst}
 use mathlib.Core.Bool.{true, false, _&&_, true≢false}
 use Prim.Native.Nat.{ℕ, zero, suc, _+_, _-_, _*_, _/_, _%_, _^_, _≤_, _<_}
 use native.Mathlib.Nat.{le-trans, le-of-eq, le-of-lt, lt-of-le-of-lt, lt-of-lt-of-le, lt-of-not-le, not-le-of-lt}
-use native.Mathlib.Nat.{mul-comm, mul-assoc, mul-one, mul-add, mul-lt-mul-of-pos-right, le-mul-of-pos-right, min-eq-left}
+use native.Mathlib.Nat.{mul-comm, mul-assoc, mul-one, mul-add, le-mul-of-pos-right, min-eq-left}
 use native.Mathlib.Nat.{mod-lt, mod-le, mod-one, mod-eq-sub-div-mul, div-add-mod', div-mul-le-self, div-lt-iff-lt-mul, mul-add-div-right, zero-div}
 use native.Mathlib.Omega.{arith}
 use lib.Dec.{T, ltb, leb, eqb, ltb→lt, leb→le, eqb→eq, lit<, lit≤}
 use lib.IntN.{ℤ, pos, negsuc}
-use lib.Pow.{pow-add, pow-mono}
+use lib.Pow.{pow-mono}
 use lib.Ieee.{Float, nan, inf, fin, binary32, up, down, round, sub, mul, ofInt, toUnsigned, le, fits}
 use lib.Ieee.Fits.{up-pos, down-pos, and-l, and-r}
-use lib.Ieee.Digits.{back}
 use lib.Ieee.Exact.{HasValue}
 use lib.Ieee.Back.{round-whole}
 use lib.Ieee.Order.{le-of-values}
 use Rattle.ieee754.specs.Operations.{isSignMinus}
 use Rattle.ieee754.specs.Single.{_⊖_, _⊗_, decimal}
+use Rattle.ieee754.proofs.Numbers.{pow-split}
 use Rattle.ieee754.proofs.Whole.{unsigned-of-value, of-minus}
 use Rattle.ieee754.proofs.Bounds.{minus-zero}
 use Rattle.units.specs.Accuracy.{floor256}
-use Rattle.units.proofs.Values.{less-whole, product, exact, minus-less, minus-times}
+use Rattle.units.proofs.Fractions.{less-whole, product, exact, minus-less, minus-times}
 
 -- ---- i and j, as the Rust works them out
 abbrev pub integral : Float → ℕ
@@ -51,16 +51,10 @@ zeros p i j n z =
       floored = λ h. rw (j, i) (z h);
     }
 
-minus-integral : (p : Float) → isSignMinus p ≡ true → integral p ≡ 0
-minus-integral p h = sym (of-minus 64 p h)
-
-minus-step : (p : Float) → isSignMinus p ≡ true → step p ≡ 0
-minus-step p h =
-    rw (minus-integral p h)
-    (sym (of-minus 64 ((p ⊖ ofInt binary32 (pos 0)) ⊗ decimal 256 0) (minus-times (p ⊖ ofInt binary32 (pos 0)) (minus-less p h))))
-
-minus-place : (p : Float) → isSignMinus p ≡ true → place p ≡ 0
-minus-place p h = sym (of-minus 64 (p ⊗ decimal 256 0) (minus-times p h))
+minus : (p : Float) → isSignMinus p ≡ true → (T (le (decimal 0 0) p) → 0 ≡ floor256 p) → Places p
+minus p h =
+    let i : integral p ≡ 0 = sym (of-minus 64 p h) in
+    zeros p i (rw i (sym (of-minus 64 _ (minus-times _ (minus-less p h))))) (sym (of-minus 64 _ (minus-times p h)))
 
 -- ---- m * 2 ^ e of single precision: m has at most 24 digits, and the denominator of 2 ^ e divides 2 ^ 149
 record Parts (m : ℕ) (e : ℤ) : Type 0 where
@@ -85,7 +79,7 @@ parts m (pos k) t = record { digits = small m (pos k) t .0; j = 149; j-le = lit�
 parts m (negsuc k) t =
     let s = small m (negsuc k) t in
     let l : suc k ≤ 149 = omega (arith, lt-of-not-le (λ (g : 150 ≤ suc k). not-le-of-lt (lt-of-lt-of-le (lit< {m = 2 ^ 149} {n = 2 ^ 150} tt) (pow-mono g)) (s .1))) in
-    record { digits = s .0; j = 149 - suc k; j-le = omega arith; goes = sym (pow-add 2 (149 - suc k) (suc k)) ∙ ap (λ (z : ℕ). 2 ^ z) (back 149 (suc k) l) }
+    record { digits = s .0; j = 149 - suc k; j-le = omega arith; goes = sym (pow-split (suc k) 149 l) }
 
 -- ---- without a minus sign: m * 2 ^ e is `whole` and `rest` / down e
 abbrev whole : ℕ → ℤ → ℕ
@@ -107,15 +101,22 @@ size-small m (negsuc k) d h = rw mul-one d
 cut : (x : Float) (a c : ℕ) → 0 < c → HasValue x false a c → a / c < 65536 → toUnsigned 64 x ≡ a / c
 cut x a c C v h = unsigned-of-value 64 x a c C v ∙ min-eq-left (le-trans (le-of-lt h) (lit≤ tt))
 
-last : (w s : ℕ) → s < 256 → (256 * w + s) % 256 ≡ s
-last w s h = omega arith
-
 module _ (m : ℕ) (e : ℤ) (h : m * up e < 256 * down e) (t : T (fits binary32 (fin false m e))) where
   whole-below : whole m e < 256
   whole-below = div-lt-iff-lt-mul (down-pos e) .1 h
 
   integral-is : integral (fin false m e) ≡ whole m e
   integral-is = cut (fin false m e) (m * up e) (down e) (down-pos e) (refl, refl) (lt-of-lt-of-le whole-below (lit≤ tt))
+
+  -- r * 2 ^ k / down e is exact, and 256 * r / down e has its whole part
+  exactly : (r k : ℕ) → r < 2 ^ 24 → k ≤ 8 → HasValue (round binary32 false (r * 2 ^ k) (down e)) false (r * 2 ^ k) (down e)
+  exactly r k R K = let p = parts m e t in exact r k (down e) (p .j) (down-pos e) R (omega (arith, p .j-le)) (p .goes)
+
+  times : (y : Float) (r : ℕ) → r < 2 ^ 24 → HasValue y false r (down e) → r * 256 / down e < 65536 → toUnsigned 64 (y ⊗ decimal 256 0) ≡ r * 256 / down e
+  times y r R v =
+      let c = round-whole binary32 false 256 (lit≤ tt) in
+      cut (y ⊗ decimal 256 0) (r * 256) (down e) (down-pos e)
+      (rw (product binary32 y (decimal 256 0) r (down e) 256 1 (down-pos e) (lit< tt) v c, mul-one) (exactly r 8 R (omega arith)))
 
   rest-small : rest m e < 2 ^ 24
   rest-small = lt-of-le-of-lt (rest-le m e) (parts m e t .digits)
@@ -124,49 +125,28 @@ module _ (m : ℕ) (e : ℤ) (h : m * up e < 256 * down e) (t : T (fits binary32
   unfolding ofInt
   whole-value = round-whole binary32 false (whole m e) (le-trans (le-of-lt whole-below) (lit≤ tt))
 
-  -- rest * 2 ^ k / down e is exact, for the difference and for 256 times that
-  rest-exact : (k : ℕ) → k ≤ 8 → HasValue (round binary32 false (rest m e * 2 ^ k) (down e)) false (rest m e * 2 ^ k) (down e)
-  rest-exact k K = let p = parts m e t in exact (rest m e) k (down e) (p .j) (down-pos e) rest-small (omega (arith, p .j-le)) (p .goes)
-
   difference : HasValue (fin false m e ⊖ ofInt binary32 (pos (whole m e))) false (rest m e) (down e)
   difference =
-      rw (less-whole binary32 m e (ofInt binary32 (pos (whole m e))) (whole m e) whole-value (div-mul-le-self (m * up e) (down e)), ← mod-eq-sub-div-mul (m * up e) (down e))
-      (rw mul-one at (rest-exact 0 (omega arith)))
-
-  scaled : HasValue ((fin false m e ⊖ ofInt binary32 (pos (whole m e))) ⊗ decimal 256 0) false (rest m e * 256) (down e)
-  scaled =
-      let d = fin false m e ⊖ ofInt binary32 (pos (whole m e)) in
-      let c = round-whole binary32 false 256 (lit≤ tt) in
-      rw (product binary32 d (decimal 256 0) (rest m e) (down e) 256 1 (down-pos e) (lit< tt) difference c, mul-one) (rest-exact 8 (omega arith))
+      rw (less-whole binary32 m e _ (whole m e) whole-value (div-mul-le-self (m * up e) (down e)), ← mod-eq-sub-div-mul (m * up e) (down e))
+      (rw mul-one at (exactly (rest m e) 0 rest-small (omega arith)))
 
   rest-below : rest m e * 256 / down e < 256
-  rest-below =
-      let h = mul-lt-mul-of-pos-right (mod-lt (m * up e) (down-pos e)) (lit< tt) in
-      div-lt-iff-lt-mul (down-pos e) .1 (lt-of-lt-of-le h (le-of-eq (mul-comm (down e) 256)))
+  rest-below = div-lt-iff-lt-mul (down-pos e) .1 (omega (arith, mod-lt (m * up e) (down-pos e)))
 
   step-is : step (fin false m e) ≡ rest m e * 256 / down e
-  step-is =
-      let d = fin false m e ⊖ ofInt binary32 (pos (whole m e)) in
-      rw integral-is (cut (d ⊗ decimal 256 0) (rest m e * 256) (down e) (down-pos e) scaled (lt-of-lt-of-le rest-below (lit≤ tt)))
+  step-is = rw integral-is (times _ (rest m e) rest-small difference (lt-of-lt-of-le rest-below (lit≤ tt)))
 
   together : 256 * whole m e + rest m e * 256 / down e ≡ 256 * (m * up e) / down e
   together =
       sym (mul-add-div-right (down-pos e) (256 * whole m e) (rest m e * 256))
       ∙ ap (λ (z : ℕ). z / down e) (rw (mul-assoc 256 (whole m e) (down e), mul-comm (rest m e) 256, ← mul-add, div-add-mod' (m * up e) (down e)))
 
-  times : HasValue (fin false m e ⊗ decimal 256 0) false (m * up e * 256) (down e)
-  times =
-      let c = round-whole binary32 false 256 (lit≤ tt) in
-      let p = parts m e t in
-      rw (product binary32 (fin false m e) (decimal 256 0) (m * up e) (down e) 256 1 (down-pos e) (lit< tt) (refl, refl) c, mul-one)
-      (exact (m * up e) 8 (down e) (p .j) (down-pos e) (size-small m e (p .digits) h) (omega (arith, p .j-le)) (p .goes))
-
   place-is : place (fin false m e) ≡ 256 * whole m e + rest m e * 256 / down e
   place-is =
       let parted = ap (λ (z : ℕ). z / down e) (mul-comm (m * up e) 256) ∙ sym together in
       let low = rest-below in
       let high = whole-below in
-      cut (fin false m e ⊗ decimal 256 0) (m * up e * 256) (down e) (down-pos e) times (rw parted (omega (arith, low, high))) ∙ parted
+      times (fin false m e) (m * up e) (size-small m e (parts m e t .digits) h) (refl, refl) (rw parted (omega arith)) ∙ parted
 
 -- ---- both places of any pitch below 256
 below : (m : ℕ) (e : ℤ) → le (decimal 256 0) (fin false m e) ≡ false → m * up e < 256 * down e
@@ -178,16 +158,14 @@ below m e h =
 pub places : (p : Float) → T (fits binary32 p) → le (decimal 256 0) p ≡ false → Places p
 unfolding le sub mul round toUnsigned isSignMinus
 places nan t h = zeros nan refl refl refl (λ z. absurd z)
-places (inf true) t h = zeros (inf true) (minus-integral (inf true) refl) (minus-step (inf true) refl) (minus-place (inf true) refl) (λ z. absurd z)
+places (inf true) t h = minus (inf true) refl (λ z. absurd z)
 places (inf false) t h = absurd (true≢false h)
-places (fin true m e) t h =
-    zeros (fin true m e) (minus-integral (fin true m e) refl) (minus-step (fin true m e) refl) (minus-place (fin true m e) refl)
-    (λ z. sym (ap (λ (k : ℕ). 256 * k / down e) (minus-zero m e z) ∙ zero-div (down e)))
+places (fin true m e) t h = minus (fin true m e) refl (λ z. sym (ap (λ (k : ℕ). 256 * k / down e) (minus-zero m e z) ∙ zero-div (down e)))
 places (fin false m e) t h =
     let b = below m e h in
     record {
       integral-below = rw (integral-is m e b t) (whole-below m e b t);
       step-below = rw (step-is m e b t) (rest-below m e b t);
-      remainder = rw (step-is m e b t, place-is m e b t) (last (whole m e) (rest m e * 256 / down e) (rest-below m e b t));
+      remainder = rw (step-is m e b t, place-is m e b t) (omega (arith, rest-below m e b t));
       floored = λ _. rw (step-is m e b t, integral-is m e b t) (together m e b t);
     }

@@ -1,4 +1,4 @@
--- Finite values in units of the smallest value of a format, 2 ^ -low, in either format: which of them a format holds, and their patterns. Assumes nothing.
+-- Finite values in units of the smallest value of a format, 2 ^ -low, in either format: which of them a format holds, and their patterns.
 use borrow.Author.Tests.{lt-ltb}
 use mathlib.Core.Path.{_≡_, refl, sym, ap, _∙_}
 use mathlib.Core.Bool.{Bool, false, cond}

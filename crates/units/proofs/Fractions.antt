@@ -1,10 +1,10 @@
--- Differences and products of values that are known as fractions, zero included, and the sign of those that have a minus sign. Assumes nothing.
+-- Differences and products of values that are known as fractions, zero included, and the sign of those that have a minus sign.
+use borrow.Author.Tests.{le-ltb}
 use mathlib.Core.Path.{_≡_, refl, sym, ap, _∙_}
-use mathlib.Core.Bool.{Bool, true, false, cond, true≢false}
+use mathlib.Core.Bool.{true, false, true≢false}
 use Prim.Native.Nat.{ℕ, _+_, _-_, _*_, _^_, _≤_, _<_}
-use native.Mathlib.Nat.{lt-of-lt-of-le, not-le-of-lt, mul-comm, mul-assoc, mul-left-comm, mul-right-comm, mul-mul-mul-comm, mul-one, mul-sub, mul-pos, mul-le-mul-right}
+use native.Mathlib.Nat.{lt-of-lt-of-le, mul-comm, mul-assoc, mul-left-comm, mul-mul-mul-comm, mul-sub, mul-pos, mul-le-mul-right}
 use native.Mathlib.Omega.{arith}
-use lib.Dec.{T, ltb, ltb→lt}
 use lib.IntN.{ℤ, pos}
 use lib.Pow.{pow-add, pow-mono, shl-lt}
 use lib.Ieee.{Float, nan, inf, fin, Format, binary32, up, down, round, sum, sub, mul, ofInt}
@@ -18,11 +18,7 @@ use Rattle.ieee754.specs.Single.{decimal}
 -- ---- m * 2 ^ e - i, for a whole i that is no larger
 sum-is : (f : Format) (a b c : ℕ) → b ≤ a → sum f false a true b c ≡ round f false (a - b) c
 unfolding sum
-sum-is f a b c h = go (ltb a b) (ltb→lt a b)
-  where
-    go : (t : Bool) → (T t → a < b) → cond t (round f true (b - a) c) (round f false (a - b) c) ≡ round f false (a - b) c
-    go true k = absurd (not-le-of-lt (k tt) h)
-    go false k = refl
+sum-is f a b c h = rw (le-ltb a b h)
 
 spread : (x y c d : ℕ) → (x * d - y * d) * c ≡ (x - y) * (c * d)
 spread x y c d = rw (mul-comm x d, mul-comm y d, ← mul-sub d x y) (simp (mul-assoc, mul-comm, mul-left-comm))
@@ -34,7 +30,7 @@ less-whole f m e nan i v h = absurd v
 less-whole f m e (inf s) i v h = absurd v
 less-whole f m e (fin true n d) i v h = absurd (true≢false (v .0))
 less-whole f m e (fin false n d) i v h =
-    let y : n * up d * down e ≡ i * down e * down d = ap (λ (z : ℕ). z * down e) (sym (mul-one (n * up d)) ∙ v .1) ∙ mul-right-comm i (down d) (down e) in
+    let y : n * up d * down e ≡ i * down e * down d = omega (arith, ap (λ (z : ℕ). z * down e) (v .1)) in
     ap (λ (z : ℕ). sum f false (m * up e * down d) true z (down e * down d)) y
     ∙ sum-is f (m * up e * down d) (i * down e * down d) (down e * down d) (mul-le-mul-right (down d) h)
     ∙ round-same f false (m * up e * down d - i * down e * down d) (down e * down d) (m * up e - i * down e) (down e) (mul-pos (down-pos e) (down-pos d)) (down-pos e)

@@ -1,4 +1,4 @@
--- `analog_bass_drum::AnalogBassDrum::excitation` meets its contract: the last call first. Assumes nothing.
+-- Line by line the definition, the last call first.
 use borrow.Author.Needs.{needs}
 use lib.Ieee.{round, ofBits}
 use Rattle.analog_bass_drum.specs.AnalogBassDrum.{excitation}

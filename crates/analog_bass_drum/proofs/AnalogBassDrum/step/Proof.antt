@@ -1,4 +1,4 @@
--- `analog_bass_drum::AnalogBassDrum::step` meets its contract: the last call first. Assumes nothing.
+-- Line by line the definition, the last call first; the excitation is the one that the caller kept.
 use borrow.Author.Needs.{needs}
 use lib.Ieee.{round, ofBits}
 use Rattle.analog_bass_drum.specs.AnalogBassDrum.{step}

@@ -1,4 +1,4 @@
--- `analog_snare_drum::AnalogSnareDrum::step` meets its contract. Assumes nothing.
+-- Line by line the definition, the last call first; the excitation is the one that the caller kept.
 use borrow.Author.Needs.{needs}
 use lib.Ieee.{round, ofBits}
 use Rattle.analog_snare_drum.specs.AnalogSnareDrum.{step}

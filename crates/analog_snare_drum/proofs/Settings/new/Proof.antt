@@ -1,7 +1,7 @@
--- `analog_snare_drum::Settings::new` meets its contract. Assumes nothing.
+-- Both pitches lie in the tables, so `unwrap_or` replaces neither ratio; then line by line the definition.
 use borrow.Author.Needs.{needs}
 use lib.Ieee.{round, ofBits}
-use Rattle.analog_snare_drum.proofs.Laws.{q-ratio, noise-ratio}
+use Rattle.analog_snare_drum.proofs.Pitches.{q-ratio, noise-ratio}
 use Rattle.analog_snare_drum.specs.AnalogSnareDrum.{settings}
 use Rattle.analog_snare_drum.proofs.Settings.new.Statement.{statement}
 use Rattle.analog_snare_drum.proofs.Settings.new.Tie as tie

@@ -1,4 +1,4 @@
--- `hihat::block_settings` meets its contract. Assumes nothing.
+-- Both pitches lie in the tables, so `unwrap_or` replaces neither ratio; then line by line the definition.
 use borrow.Author.Needs.{needs}
 use native.Mathlib.Omega.{arith}
 use lib.Ieee.{round, ofBits}

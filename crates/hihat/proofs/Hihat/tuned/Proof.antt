@@ -1,4 +1,4 @@
--- `hihat::Hihat::tuned` meets its contract. Assumes nothing.
+-- The pitch lies in the tables, so `unwrap_or` does not replace its ratio; then line by line the definition.
 use borrow.Author.Needs.{needs}
 use native.Mathlib.Omega.{arith}
 use lib.Ieee.{round, ofBits}

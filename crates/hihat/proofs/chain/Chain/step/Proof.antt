@@ -1,4 +1,4 @@
--- `hihat::chain::Chain::step` meets its contract: the last call first. Assumes nothing.
+-- The passes one after the other, the last call first.
 use borrow.Author.Needs.{needs}
 use mathlib.Core.Path.{refl}
 use Rattle.block.specs.Block.{then, into}

@@ -1,4 +1,4 @@
--- `synthetic_snare_drum::phases` meets its contract. Assumes nothing.
+-- Line by line the definition, the last call first.
 use borrow.Author.Needs.{needs}
 use lib.Ieee.{round, ofBits}
 use Rattle.synthetic_snare_drum.specs.SyntheticSnareDrum.{phases}

@@ -1,7 +1,7 @@
--- `synthetic_snare_drum::Settings::new` meets its contract. Assumes nothing.
+-- Both pitches lie in the tables, so `unwrap_or` replaces neither ratio; then line by line the definition.
 use borrow.Author.Needs.{needs}
 use lib.Ieee.{round, ofBits}
-use Rattle.synthetic_snare_drum.proofs.Laws.{drum-ratio, snare-ratio}
+use Rattle.synthetic_snare_drum.proofs.Pitches.{drum-ratio, snare-ratio}
 use Rattle.synthetic_snare_drum.specs.SyntheticSnareDrum.{settings}
 use Rattle.synthetic_snare_drum.proofs.Settings.new.Statement.{statement}
 use Rattle.synthetic_snare_drum.proofs.Settings.new.Tie as tie

@@ -1,4 +1,4 @@
--- `synthetic_snare_drum::SyntheticSnareDrum::tuned` meets its contract. Assumes nothing.
+-- Line by line the definition, the last call first.
 use borrow.Author.Needs.{needs}
 use lib.Ieee.{round, ofBits}
 use Rattle.synthetic_snare_drum.specs.SyntheticSnareDrum.{tuned}
@@ -8,15 +8,12 @@ use Rattle.synthetic_snare_drum.proofs.SyntheticSnareDrum.tuned.Tie as 
 returns : tie.Need-returns
 unfolding tuned round ofBits
 returns c =
-    let c₁ = c .before .before in
-    let c₂ = c₁ .before .before in
-    rw (
-      c .set-f2 .ensures,
-      c₁ .set-f-q .ensures,
-      c₂ .set-f .ensures,
-      c₂ .before .minimum-number2 .ensures,
-      c₂ .before .before .before .minimum-number .ensures,
-    )
+    let at-drum = c .before in
+    let at-low = at-drum .before .before in
+    let at-high = at-low .before .before in
+    let at-max = at-high .before in
+    rw (at-drum .set-f2 .ensures, at-low .set-f-q .ensures, at-high .set-f .ensures, at-max .minimum-number2 .ensures)
+    (rw (at-max .before .before .minimum-number .ensures))
 
 pub tuned-spec : {M : Type 1} → statement M
 tuned-spec =

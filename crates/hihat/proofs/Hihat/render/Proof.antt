@@ -1,6 +1,6 @@
 -- The number of the answer decides what the call leaves; an accepted one's length and knobs lie between their bounds.
 use borrow.Author.Needs.{needs}
-use mathlib.Core.Path.{_≡_, refl, _∙_}
+use mathlib.Core.Path.{_≡_, refl}
 use Prim.Native.Nat.{ℕ, _≤_}
 use native.Mathlib.Omega.{arith}
 use lib.Ieee.{Float}
@@ -26,20 +26,17 @@ begun-requires c κs =
     (k .1 .a-in, k .0)
 
 refused : tie.Need-returns
-refused c =
-    let known = c .before .before .asked .ensures in
-    let some = suc-of _ _ known _ (c .enum-told .given .1) in
-    rw some (known ∙ some, (refl, (refl, refl)))
+refused c = let known = c .before .before .asked .ensures in (known, rw (suc-of _ _ known _ (c .enum-told .given .1)) (refl, (refl, refl)))
 
 accepted : tie.Need-returns-2
 accepted c =
     let ran = c .before .before .before in
     let begins = ran .before .before in
     let set = begins .before in
-    let asks = set .before .before .before in
-    let none = zero-of _ _ (asks .asked .ensures) (set .before .enum-told2 .given .1) in
-    rw (c .ended .ensures, ran .run .ensures .0, ran .run .ensures .1, begins .begun .ensures, set .block-settings .ensures, none)
-    (asks .asked .ensures ∙ none, (refl, (refl, refl)))
+    let run = ran .run .ensures in
+    let known = set .before .before .before .asked .ensures in
+    let none = zero-of _ _ known (set .before .enum-told2 .given .1) in
+    (known, rw (c .ended .ensures, run .0, run .1, begins .begun .ensures, set .block-settings .ensures, none) (refl, (refl, refl)))
 
 pub render-spec : {M : Type 1} → statement M
 render-spec =

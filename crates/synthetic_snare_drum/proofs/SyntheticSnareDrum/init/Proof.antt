@@ -4,13 +4,8 @@ use mathlib.Core.Path.{refl}
 use Rattle.synthetic_snare_drum.proofs.SyntheticSnareDrum.init.Statement.{statement}
 use Rattle.synthetic_snare_drum.proofs.SyntheticSnareDrum.init.Tie as tie
 
-accepted : tie.Need-returns
-accepted c =
-    let asked = c .before .before in
-    rw (c .initialized .ensures, ← asked .is-sample-rate .ensures, c .before .if1 .taken) (refl, refl)
-
-refused : tie.Need-returns-2
-refused c = rw (← c .before .is-sample-rate .ensures, c .if1 .left) (refl, refl)
-
 pub init-spec : {M : Type 1} → statement M
-init-spec = tie.close (tie.spec (λ c κs. search needs) (λ c κs. search needs) accepted refused)
+init-spec =
+    tie.close (tie.spec (λ c κs. search needs) (λ c κs. search needs)
+    (λ c. rw (c .initialized .ensures, ← c .before .before .is-sample-rate .ensures, c .before .if1 .taken) (refl, refl))
+    (λ c. rw (← c .before .is-sample-rate .ensures, c .if1 .left) (refl, refl)))

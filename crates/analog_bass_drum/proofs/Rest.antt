@@ -29,7 +29,8 @@ module _ (b : Settings) where
       → v .«pulse_filter_time» ≡ w .«pulse_filter_time» → excitation b v ≡ excitation b w
   unfolding excitation
   alike v w n k p l m h d f =
-      let fm = fm-alike (w .«fm_pulse_remaining_samples») (v .«retrig_pulse») (w .«retrig_pulse») (v .«retrig_pulse_duration») (w .«retrig_pulse_duration») in
+      let count = w .«fm_pulse_remaining_samples» in
+      let fm = fm-alike count (v .«retrig_pulse») (w .«retrig_pulse») (v .«retrig_pulse_duration») (w .«retrig_pulse_duration») in
       rw (n, k, p, l, m, h, d, f, fm .0, fm .1)
 
   again : (v : AnalogBassDrum) → AtRest v (excitation b v) → excitation b v ≡ excitation b (step b v)

@@ -6,4 +6,4 @@ use Rattle.analog_snare_drum.proofs.mode_output.Tie as tie
 
 pub mode-output-spec : {M : Type 1} → statement M
 unfolding modeOutput
-mode-output-spec = tie.close (tie.spec (λ c κs. search needs) (λ c. cc))
+mode-output-spec = tie.close (tie.spec (λ c κs. search needs) (λ c. rw (c .before .before .process .ensures)))

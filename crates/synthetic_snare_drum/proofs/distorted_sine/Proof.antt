@@ -7,4 +7,5 @@ use Rattle.synthetic_snare_drum.proofs.distorted_sine.Tie as tie
 
 pub distorted-sine-spec : {M : Type 1} → statement M
 unfolding distortedSine round ofBits
-distorted-sine-spec = tie.close (tie.spec (λ c κs. search needs) (λ c κs. search needs) (λ c. rw (c .one-plus-abs .ensures, c .before .folded .ensures)))
+distorted-sine-spec =
+    tie.close (tie.spec (λ c κs. search needs) (λ c κs. search needs) (λ c. rw (c .one-plus-abs .ensures, c .before .folded .ensures)))

@@ -13,7 +13,8 @@ returns c =
     let c₃ = c₂ .before .before in
     let c₄ = c₃ .before .before in
     let c₅ = c₄ .before .before in
-    rw (c .soft-clip .ensures, c₁ .mode-output5 .ensures, c₂ .mode-output4 .ensures, c₃ .mode-output3 .ensures, c₄ .mode-output2 .ensures, c₅ .mode-output .ensures)
+    rw (c .soft-clip .ensures, c₁ .mode-output5 .ensures, c₂ .mode-output4 .ensures, c₃ .mode-output3 .ensures)
+    (rw (c₄ .mode-output2 .ensures, c₅ .mode-output .ensures))
 
 pub shell-output-spec : {M : Type 1} → statement M
 shell-output-spec =

@@ -10,8 +10,8 @@ returns c =
     let at-snare = c .before .before .before .before .before .before in
     let at-drum = at-snare .before .before in
     let at-phases = at-drum .before in
-    let at-envelopes = at-phases .before .before in
-    rw (at-snare .snare .ensures, at-snare .before .get-float .ensures, at-drum .drum .ensures, at-phases .phases .ensures, at-envelopes .envelopes .ensures)
+    let at-start = at-phases .before .before in
+    rw (at-snare .snare .ensures, at-snare .before .get-float .ensures, at-drum .drum .ensures, at-phases .phases .ensures, at-start .envelopes .ensures)
 
 pub step-spec : {M : Type 1} → statement M
 step-spec =

@@ -6,4 +6,7 @@ use Rattle.synthetic_snare_drum.proofs.SyntheticSnareDrum.begun.Tie as 
 
 pub begun-spec : {M : Type 1} → statement M
 unfolding begun
-begun-spec = tie.close (tie.spec (λ c κs. search needs) (λ c κs. search needs) (λ c. search needs) (λ c κs. search needs) (λ c. cc))
+begun-spec =
+    tie.close
+    (tie.spec (λ c κs. search needs) (λ c κs. search needs) (λ c. search needs) (λ c κs. search needs)
+    (λ c. rw (c .new .ensures, c .before .triggered .ensures, c .before .before .tuned .ensures)))

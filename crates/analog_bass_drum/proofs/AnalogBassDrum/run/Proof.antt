@@ -37,12 +37,8 @@ keeps c =
     let l = s .before .before .loop in
     rw (s .step .ensures) (going _ _ _ _ _ _ _ (l .inv .0) (omega (arith, l .inv .0 .long)), kept _ _ _ _ (not-false _ (c .if1 .left)) (l .inv .1))
 
-returns : tie.Need-returns Inv-loop μ-loop
-returns c = end-source _ _ _ _ _ _ (c .before .loop .inv .0) (c .loop-test .left)
-
 pub run-spec : {M : Type 1} → statement M
 run-spec =
-    tie.close
-    (tie.spec Inv-loop μ-loop (λ c κs. search needs) (λ c κs. search needs) loop-holds (λ c κs. search needs) (λ c. search needs) (λ c. search needs)
-    (λ c. search needs) (λ c κs. search needs) (λ c κs. search needs) (λ c. simp length-set (omega arith)) made (λ c. simp length-set (omega arith)) keeps
-    (λ c. search needs) returns)
+    tie.close (tie.spec Inv-loop μ-loop (λ c κs. search needs) (λ c κs. search needs) loop-holds (λ c κs. search needs) (λ c. search needs)
+    (λ c. search needs) (λ c. search needs) (λ c κs. search needs) (λ c κs. search needs) (λ c. simp length-set (omega arith)) made
+    (λ c. simp length-set (omega arith)) keeps (λ c. search needs) (λ c. end-source _ _ _ _ _ _ (c .before .loop .inv .0) (c .loop-test .left)))

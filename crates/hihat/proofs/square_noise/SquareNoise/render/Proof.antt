@@ -21,11 +21,8 @@ again c =
     let l = c .before .before .before .loop in
     rw (c .before .step .ensures .0, c .before .step .ensures .1) (going _ _ _ _ _ _ _ (l .inv) (omega (arith, l .inv .long)))
 
-returns : tie.Need-returns Inv-loop μ-loop
-returns c = rw (← c .before .before .increments .ensures) (end-source _ _ _ _ _ _ (c .before .loop .inv) (c .loop-test .left))
-
 pub render-spec : {M : Type 1} → statement M
 render-spec =
-    tie.close
-    (tie.spec Inv-loop μ-loop (λ c κs. search needs) (λ c. begin _ _ _ _ (omega arith)) (λ c κs. search needs) (λ c. search needs) (λ c. search needs)
-    (λ c. search needs) (λ c. simp length-set (omega arith)) again (λ c. search needs) returns)
+    tie.close (tie.spec Inv-loop μ-loop (λ c κs. search needs) (λ c. begin _ _ _ _ (omega arith)) (λ c κs. search needs) (λ c. search needs)
+    (λ c. search needs) (λ c. search needs) (λ c. simp length-set (omega arith)) again (λ c. search needs)
+    (λ c. rw (← c .before .before .increments .ensures) (end-source _ _ _ _ _ _ (c .before .loop .inv) (c .loop-test .left))))

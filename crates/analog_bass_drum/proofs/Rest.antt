@@ -1,5 +1,6 @@
--- An excitation at rest is that of the next turn too. Assumes nothing.
-use mathlib.Core.Path.{_≡_, refl, sym, _∙_}
+-- An excitation at rest is that of the next turn too, so it is right to keep it. Assumes nothing.
+use mathlib.Core.Path.{_≡_, refl, sym}
+use mathlib.Core.Bool.{Bool, true}
 use Prim.Native.Nat.{ℕ, zero, suc}
 use lib.Ieee.{Float}
 use Rattle.analog_bass_drum.specs.AnalogBassDrum.{fmPulse, excitation, step}
@@ -8,37 +9,37 @@ use Rattle.analog_bass_drum.specs.declared.AnalogBassDrum.{AnalogBassDru
 use Rattle.analog_bass_drum.specs.declared.Settings.{Settings}
 use Rattle.analog_bass_drum.specs.declared.Excitation.{Excitation}
 
--- e is the excitation of v's turn, and leaves v's fields as they are
-abbrev pub Held : Settings → AnalogBassDrum → Excitation → Type 0
-Held b v e = (e ≡ excitation b v) × AtRest v e
-
 -- the FM pulse and its countdown do not depend on the retrigger pulse
-fm-count-alike : (k : ℕ) (r s d c : Float) → fmPulse k r d .«remaining_samples» ≡ fmPulse k s c .«remaining_samples»
+fm-alike : (k : ℕ) (r s d c : Float)
+    → (fmPulse k r d .«remaining_samples» ≡ fmPulse k s c .«remaining_samples») × (fmPulse k r d .«fm_pulse» ≡ fmPulse k s c .«fm_pulse»)
 unfolding fmPulse
-fm-count-alike zero r s d c = refl
-fm-count-alike (suc n) r s d c = refl
+fm-alike zero r s d c = (refl, refl)
+fm-alike (suc n) r s d c = (refl, refl)
 
-fm-pulse-alike : (k : ℕ) (r s d c : Float) → fmPulse k r d .«fm_pulse» ≡ fmPulse k s c .«fm_pulse»
-unfolding fmPulse
-fm-pulse-alike zero r s d c = refl
-fm-pulse-alike (suc n) r s d c = refl
+module _ (b : Settings) where
+  -- what the loop knows of e and of its flag
+  pub record Kept (v : AnalogBassDrum) (e : Excitation) (flag : Bool) : Type 0 where
+    pub current : e ≡ excitation b v
+    pub rest : flag ≡ true → AtRest v e
 
--- what the excitation depends on
-alike : (b : Settings) (v w : AnalogBassDrum) → v .«pulse_remaining_samples» ≡ w .«pulse_remaining_samples»
-    → v .«fm_pulse_remaining_samples» ≡ w .«fm_pulse_remaining_samples» → v .pulse ≡ w .pulse → v .«pulse_lp» ≡ w .«pulse_lp»
-    → v .«fm_pulse_lp» ≡ w .«fm_pulse_lp» → v .«pulse_height» ≡ w .«pulse_height» → v .«pulse_decay_time» ≡ w .«pulse_decay_time»
-    → v .«pulse_filter_time» ≡ w .«pulse_filter_time» → excitation b v ≡ excitation b w
-unfolding excitation
-alike b v w n k p l m h d f =
-    let r = v .«retrig_pulse» in
-    let t = v .«retrig_pulse_duration» in
-    let s = w .«retrig_pulse» in
-    let u = w .«retrig_pulse_duration» in
-    rw (n, k, p, l, m, h, d, f, fm-count-alike (w .«fm_pulse_remaining_samples») r s t u, fm-pulse-alike (w .«fm_pulse_remaining_samples») r s t u)
+  -- the fields that the excitation reads
+  alike : (v w : AnalogBassDrum) → v .«pulse_remaining_samples» ≡ w .«pulse_remaining_samples»
+      → v .«fm_pulse_remaining_samples» ≡ w .«fm_pulse_remaining_samples» → v .pulse ≡ w .pulse → v .«pulse_lp» ≡ w .«pulse_lp»
+      → v .«fm_pulse_lp» ≡ w .«fm_pulse_lp» → v .«pulse_height» ≡ w .«pulse_height» → v .«pulse_decay_time» ≡ w .«pulse_decay_time»
+      → v .«pulse_filter_time» ≡ w .«pulse_filter_time» → excitation b v ≡ excitation b w
+  unfolding excitation
+  alike v w n k p l m h d f =
+      let count = w .«fm_pulse_remaining_samples» in
+      let fm = fm-alike count (v .«retrig_pulse») (w .«retrig_pulse») (v .«retrig_pulse_duration») (w .«retrig_pulse_duration») in
+      rw (n, k, p, l, m, h, d, f, fm .0, fm .1)
 
-pub held : (b : Settings) (v : AnalogBassDrum) (e : Excitation) → e ≡ excitation b v → AtRest v e → Held b (step b v) e
-unfolding excitation step
-held b v e known rest =
-    let r : AtRest v (excitation b v) = rw known at rest in
-    let again = alike b (step b v) v (r .remaining) (r .fm-remaining) (r .pulse) (r .lp) (r .fm-lp) refl refl refl in
-    (known ∙ sym again, rw known record { remaining = refl; fm-remaining = refl; pulse = refl; lp = refl; fm-lp = refl })
+  again : (v : AnalogBassDrum) → AtRest v (excitation b v) → excitation b v ≡ excitation b (step b v)
+  unfolding step excitation
+  again v r = sym (alike (step b v) v (r .remaining) (r .fm-remaining) (r .pulse) (r .lp) (r .fm-lp) refl refl refl)
+
+  rests : (v : AnalogBassDrum) → AtRest (step b v) (excitation b v)
+  unfolding step excitation
+  rests v = record { remaining = refl; fm-remaining = refl; pulse = refl; lp = refl; fm-lp = refl }
+
+  pub kept : (v : AnalogBassDrum) (e : Excitation) (flag : Bool) → flag ≡ true → Kept v e flag → Kept (step b v) e flag
+  kept v e flag h k = rw (k .current) record { current = again v (rw (k .current) at (k .rest h)); rest = λ _. rests v }

@@ -103,20 +103,16 @@ impl AnalogBassDrum {
         ensures answer { λ r. ⌜ answerNumber (r .answer) ≡ spec.initRefusal «sample_rate_hz» ⌝ }
         ensures voice { λ r. ⌜ r .voice ≡ spec.init self «sample_rate_hz» ⌝ }
     {
-        let answer = refusal::ask(
-            refusal::is_sample_rate(sample_rate_hz),
-            Refusal::SampleRate,
-            Answer::Accepted,
-        );
-        match answer {
-            Answer::Refused(_) => Answered {
-                answer,
-                voice: self,
-            },
-            Answer::Accepted => {
-                let voice = self.initialized(sample_rate_hz);
-                Answered { answer, voice }
-            }
+        if refusal::is_sample_rate(sample_rate_hz) {
+            let voice = self.initialized(sample_rate_hz);
+            return Answered {
+                answer: Answer::Accepted,
+                voice,
+            };
+        }
+        Answered {
+            answer: Answer::Refused(Refusal::SampleRate),
+            voice: self,
         }
     }
 
@@ -172,17 +168,20 @@ impl AnalogBassDrum {
         }
     }
 
-    fn triggered(mut self, trigger: bool, accent: f32) -> Self
+    fn triggered(self, trigger: bool, accent: f32) -> Self
         ensures { λ r. ⌜ r ≡ spec.triggered self trigger accent ⌝ }
     {
-        if !trigger {
-            return self;
+        if trigger {
+            AnalogBassDrum {
+                pulse_remaining_samples: self.trigger_pulse_duration,
+                fm_pulse_remaining_samples: self.fm_pulse_duration,
+                pulse_height: 3.0 + 7.0 * accent,
+                lp_out: 0.0,
+                ..self
+            }
+        } else {
+            self
         }
-        self.pulse_remaining_samples = self.trigger_pulse_duration;
-        self.fm_pulse_remaining_samples = self.fm_pulse_duration;
-        self.pulse_height = 3.0 + 7.0 * accent;
-        self.lp_out = 0.0;
-        self
     }
 
     // The loop over the block.
@@ -191,18 +190,19 @@ impl AnalogBassDrum {
         ensures block { λ _. ⌜ now (out .exit) ≡ samples (spec.turn settings) (length (now (out .entry))) self ⌝ }
     {
         let mut voice = self;
-        // The pulses come to rest, at most rates in subnormals. Products of these are slow: they are not computed again.
-        let mut e = self.excitation(settings);
-        let mut at_rest = self.is_at_rest(e);
+        let mut e = voice.excitation(settings);
+        // The pulses come to rest, at most rates in subnormals that their products round back to themselves.
+        // From then on no turn changes the excitation, and products of subnormals are slow: e is kept.
+        let mut at_rest = voice.is_at_rest(e);
         let mut i = 0;
         while i < out.len() {
+            voice = voice.step(settings, e);
+            out[i] = voice.tone_lp;
+            i += 1;
             if !at_rest {
                 e = voice.excitation(settings);
                 at_rest = voice.is_at_rest(e);
             }
-            voice = voice.step(settings, e);
-            out[i] = voice.tone_lp;
-            i += 1;
         }
         voice
     }

@@ -1,4 +1,4 @@
--- An excitation that leaves the pulse as it was comes again at the next turn. Assumes nothing.
+-- An excitation at rest is that of the next turn too, so it is right to keep it. Assumes nothing.
 use Prim.Native.Nat.{ℕ}
 use mathlib.Core.Path.{_≡_, refl, sym}
 use mathlib.Core.Bool.{Bool, true}
@@ -14,19 +14,19 @@ pub record Kept (v : AnalogSnareDrum) (e : Excitation) (flag : Bool) : Type 0 wh
   pub rest : flag ≡ true → AtRest v e
 
 -- the fields that the excitation reads
-same : (v w : AnalogSnareDrum) → v .«pulse_remaining_samples» ≡ w .«pulse_remaining_samples» → v .pulse ≡ w .pulse → v .«pulse_lp» ≡ w .«pulse_lp»
+alike : (v w : AnalogSnareDrum) → v .«pulse_remaining_samples» ≡ w .«pulse_remaining_samples» → v .pulse ≡ w .pulse → v .«pulse_lp» ≡ w .«pulse_lp»
     → v .«pulse_height» ≡ w .«pulse_height» → v .«pulse_decay_time» ≡ w .«pulse_decay_time» → excitation v ≡ excitation w
 unfolding excitation
-same v w remaining pulse lp height time = rw (remaining, pulse, lp, height, time)
+alike v w n p l h d = rw (n, p, l, h, d)
 
-again : (s : Settings) (noise : ℕ) (v : AnalogSnareDrum) → AtRest v (excitation v) → excitation v ≡ excitation (step s v noise .voice)
-unfolding step excitation
-again s noise v r = sym (same (step s v noise .voice) v (r .remaining) (r .pulse) (r .lp) refl refl)
+module _ (b : Settings) (noise : ℕ) where
+  again : (v : AnalogSnareDrum) → AtRest v (excitation v) → excitation v ≡ excitation (step b v noise .voice)
+  unfolding step excitation
+  again v r = sym (alike (step b v noise .voice) v (r .remaining) (r .pulse) (r .lp) refl refl)
 
-rests : (s : Settings) (noise : ℕ) (v : AnalogSnareDrum) → AtRest (step s v noise .voice) (excitation v)
-unfolding step excitation
-rests s noise v = record { remaining = refl; pulse = refl; lp = refl }
+  rests : (v : AnalogSnareDrum) → AtRest (step b v noise .voice) (excitation v)
+  unfolding step excitation
+  rests v = record { remaining = refl; pulse = refl; lp = refl }
 
-pub kept : (s : Settings) (noise : ℕ) (v : AnalogSnareDrum) (e : Excitation) (flag : Bool) → flag ≡ true → Kept v e flag → Kept (step s v noise .voice) e flag
-kept s noise v e flag h k =
-    rw (k .current) record { current = again s noise v (rw (k .current) at (k .rest h)); rest = λ _. rests s noise v }
+  pub kept : (v : AnalogSnareDrum) (e : Excitation) (flag : Bool) → flag ≡ true → Kept v e flag → Kept (step b v noise .voice) e flag
+  kept v e flag h k = rw (k .current) record { current = again v (rw (k .current) at (k .rest h)); rest = λ _. rests v }

@@ -110,20 +110,16 @@ impl AnalogSnareDrum {
         ensures answer { λ r. ⌜ answerNumber (r .answer) ≡ spec.initRefusal «sample_rate_hz» ⌝ }
         ensures voice { λ r. ⌜ r .voice ≡ spec.init self «sample_rate_hz» ⌝ }
     {
-        let answer = refusal::ask(
-            refusal::is_sample_rate(sample_rate_hz),
-            Refusal::SampleRate,
-            Answer::Accepted,
-        );
-        match answer {
-            Answer::Refused(_) => Answered {
-                answer,
-                voice: self,
-            },
-            Answer::Accepted => {
-                let voice = self.initialized(sample_rate_hz);
-                Answered { answer, voice }
-            }
+        if refusal::is_sample_rate(sample_rate_hz) {
+            let voice = self.initialized(sample_rate_hz);
+            return Answered {
+                answer: Answer::Accepted,
+                voice,
+            };
+        }
+        Answered {
+            answer: Answer::Refused(Refusal::SampleRate),
+            voice: self,
         }
     }
 
@@ -185,20 +181,23 @@ impl AnalogSnareDrum {
         }
     }
 
-    fn triggered(mut self, trigger: bool, accent: f32) -> Self
+    fn triggered(self, trigger: bool, accent: f32) -> Self
         ensures { λ r. ⌜ r ≡ spec.triggered self trigger accent ⌝ }
     {
-        if !trigger {
-            return self;
+        if trigger {
+            AnalogSnareDrum {
+                pulse_remaining_samples: self.trigger_pulse_duration,
+                pulse_height: 3.0 + 7.0 * accent,
+                noise_envelope: 2.0,
+                ..self
+            }
+        } else {
+            self
         }
-        self.pulse_remaining_samples = self.trigger_pulse_duration;
-        self.pulse_height = 3.0 + 7.0 * accent;
-        self.noise_envelope = 2.0;
-        self
     }
 
     // The six filters set to their frequencies.
-    fn tuned(mut self, f0: f32, q: f32) -> Self
+    fn tuned(self, f0: f32, q: f32) -> Self
         ensures { λ r. ⌜ r ≡ spec.tuned self f0 q ⌝ }
     {
         let old = self.resonator;
@@ -206,9 +205,11 @@ impl AnalogSnareDrum {
         let f_noise = ieee754::clamp(f0 * 16.0, 0.0, 0.499);
         let noise_filter = self.noise_filter
             .set_f_q(f_noise, 1.0 + f_noise * 1.5, FrequencyApproximation::Fast);
-        self.resonator = resonator;
-        self.noise_filter = noise_filter;
-        self
+        AnalogSnareDrum {
+            resonator,
+            noise_filter,
+            ..self
+        }
     }
 
     // The loop over the block.

@@ -1,4 +1,4 @@
--- The five passes over a block leave what one pass leaves that takes each sample through all five: the same samples and the same states. Assumes nothing.
+-- The five passes over a block leave the samples and the states that one pass leaves, which takes each sample through all five. Assumes nothing.
 use mathlib.Core.Path.{_≡_, sym, _∙_, ap}
 use mathlib.Core.List.{List}
 use Prim.Native.Nat.{ℕ}
@@ -8,13 +8,6 @@ use Rattle.block.proofs.Blocks.{scan-then, scanned-then, samples-into, after-in
 use Rattle.hihat.specs.declared.chain.Chain.{Chain}
 use Rattle.hihat.specs.declared.chain.Settings.{Settings}
 use Rattle.hihat.specs.Chain.{filtered, passed, states, onePass, States}
-
-module _ (b : Settings) (n : ℕ) (c : Chain) where
-  pub one-pass-samples : filtered b n c ≡ samples (onePass b) n (states c)
-  one-pass-samples = rw (scan-then, scan-then, scan-then, samples-into)
-
-  pub one-pass-states : states (passed b n c) ≡ after (onePass b) n (states c)
-  one-pass-states = rw (after-into, scanned-then, scanned-then, scanned-then)
 
 -- a chain is known by its states
 joined : States → Chain
@@ -30,8 +23,14 @@ known-by-states : (c d : Chain) → states c ≡ states d → c ≡ d
 unfolding joined
 known-by-states c d e = ap joined e
 
--- the loop's end: what one pass leaves is what the five leave
 module _ (b : Settings) (n : ℕ) (c : Chain) where
+  one-pass-samples : filtered b n c ≡ samples (onePass b) n (states c)
+  one-pass-samples = rw (scan-then, scan-then, scan-then, samples-into)
+
+  one-pass-states : states (passed b n c) ≡ after (onePass b) n (states c)
+  one-pass-states = rw (after-into, scanned-then, scanned-then, scanned-then)
+
+  -- the loop's end: what one pass leaves is what the five leave
   pub five-passes : (d : Chain) (out : List Float) → (states d ≡ after (onePass b) n (states c)) × (out ≡ samples (onePass b) n (states c))
       → (d ≡ passed b n c) × (out ≡ filtered b n c)
-  five-passes d out e = (known-by-states d (passed b n c) (e .0 ∙ sym (one-pass-states b n c)), e .1 ∙ sym (one-pass-samples b n c))
+  five-passes d out e = (known-by-states d (passed b n c) (e .0 ∙ sym one-pass-states), e .1 ∙ sym one-pass-samples)

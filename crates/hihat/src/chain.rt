@@ -130,8 +130,7 @@ impl ClockedNoise {
         }
         ClockedNoise {
             noise_clock,
-            noise_sample: self.noise_sample,
-            noise: self.noise,
+            ..self
         }
     }
 }
@@ -152,12 +151,8 @@ impl Vca {
                 sample: amplify(vca_type, in_, sustain_gain.value),
             };
         }
-        let sustain_gain = self.sustain_gain;
         VcaSample {
-            vca: Vca {
-                envelope,
-                sustain_gain,
-            },
+            vca: Vca { envelope, ..self },
             sample: amplify(vca_type, in_, envelope),
         }
     }

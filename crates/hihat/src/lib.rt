@@ -65,20 +65,16 @@ impl Hihat {
         ensures answer { λ r. ⌜ answerNumber (r .answer) ≡ spec.initRefusal «sample_rate» ⌝ }
         ensures voice { λ r. ⌜ r .voice ≡ spec.init self «sample_rate» ⌝ }
     {
-        let answer = refusal::ask(
-            refusal::is_sample_rate(sample_rate),
-            Refusal::SampleRate,
-            Answer::Accepted,
-        );
-        match answer {
-            Answer::Refused(_) => Answered {
-                answer,
-                voice: self,
-            },
-            Answer::Accepted => {
-                let voice = self.initialized(sample_rate);
-                Answered { answer, voice }
-            }
+        if refusal::is_sample_rate(sample_rate) {
+            let voice = self.initialized(sample_rate);
+            return Answered {
+                answer: Answer::Accepted,
+                voice,
+            };
+        }
+        Answered {
+            answer: Answer::Refused(Refusal::SampleRate),
+            voice: self,
         }
     }
 
@@ -153,14 +149,17 @@ impl Hihat {
         }
     }
 
-    fn triggered(mut self, trigger: bool, accent: f32, decay: f32) -> Self
+    fn triggered(self, trigger: bool, accent: f32, decay: f32) -> Self
         ensures { λ r. ⌜ r ≡ spec.triggered self trigger accent decay ⌝ }
     {
-        if !trigger {
-            return self;
+        if trigger {
+            Hihat {
+                envelope: (1.5 + 0.5 * (1.0 - decay)) * (0.3 + 0.7 * accent),
+                ..self
+            }
+        } else {
+            self
         }
-        self.envelope = (1.5 + 0.5 * (1.0 - decay)) * (0.3 + 0.7 * accent);
-        self
     }
 
     // Both filters at the cutoff of a tone. The pitch lies in the tables, so its ratio is not replaced.

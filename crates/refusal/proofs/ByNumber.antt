@@ -2,7 +2,7 @@
 use mathlib.Core.Path.{_≡_, refl, sym, ap, _∙_}
 use mathlib.Core.Bool.{Bool, true, false}
 use mathlib.Core.List.{[], _∷_}
-use Prim.Native.Nat.{ℕ, zero, suc, _≤_, _<_}
+use Prim.Native.Nat.{ℕ, suc, _-_, _≤_, _<_}
 use native.Mathlib.Omega.{arith}
 use lib.ListN.{getD}
 use lib.Ieee.{Float}
@@ -43,22 +43,17 @@ known-by-number Accepted (Refused s) e = absurd (omega (arith, refused s .0))
 known-by-number (Refused r) Accepted e = absurd (omega (arith, refused r .0))
 known-by-number (Refused r) (Refused s) e = ap Refused (sym (numbered r .0) ∙ ap refusalOf e ∙ numbered s .0)
 
--- the number of an accepted answer
-pub zero-of : (a : Answer) (n : ℕ) → answerNumber a ≡ n → a ≡ Accepted → n ≡ 0
-zero-of a n known e = sym known ∙ ap answerNumber e
+-- the number of an accepted answer, and of a refused one
+module _ (a : Answer) (n : ℕ) (known : answerNumber a ≡ n) where
+  pub zero-of : a ≡ Accepted → n ≡ 0
+  zero-of e = sym known ∙ ap answerNumber e
 
--- a call of any other number leaves the value as it was
-old-kept : {A : Type 0} (n : ℕ) (new old : A) → (n ≡ 0 → ⊥) → unlessRefused n new old ≡ old
-old-kept zero new old h = absurd (h refl)
-old-kept (suc n) new old h = refl
+  pub suc-of : (r : Refusal) → a ≡ Refused r → n ≡ suc (n - 1)
+  suc-of r e = let k : number r ≡ n = rw e at known in omega (arith, refused r .0)
 
--- the two arms of a `match` on an answer a whose number is n
-module _ {A : Type 0} (new old : A) (a : Answer) (n : ℕ) (known : answerNumber a ≡ n) where
-  pub arm-accepted : a ≡ Accepted → unlessRefused n new old ≡ new
-  arm-accepted e = rw (zero-of a n known e)
-
-  pub arm-refused : (r : Refusal) → a ≡ Refused r → unlessRefused n new old ≡ old
-  arm-refused r e = let k : number r ≡ n = rw e at known in old-kept n new old (λ z. omega (arith, refused r .0))
+-- a refused call leaves the value as it was
+pub arm-refused : {A : Type 0} (new old : A) (a : Answer) (n : ℕ) → answerNumber a ≡ n → (r : Refusal) → a ≡ Refused r → unlessRefused n new old ≡ old
+arm-refused new old a n known r e = rw (suc-of a n known r e)
 
 -- a nest of questions gives 0 exactly where each is passed
 pub passed : (q : Bool) (n next : ℕ) → 0 < n → ask q n next ≡ 0 → (q ≡ true) × (next ≡ 0)

@@ -104,20 +104,16 @@ impl SyntheticSnareDrum {
         ensures answer { λ r. ⌜ answerNumber (r .answer) ≡ spec.initRefusal «sample_rate_hz» ⌝ }
         ensures voice { λ r. ⌜ r .voice ≡ spec.init self «sample_rate_hz» ⌝ }
     {
-        let answer = refusal::ask(
-            refusal::is_sample_rate(sample_rate_hz),
-            Refusal::SampleRate,
-            Answer::Accepted,
-        );
-        match answer {
-            Answer::Refused(_) => Answered {
-                answer,
-                voice: self,
-            },
-            Answer::Accepted => {
-                let voice = self.initialized(sample_rate_hz);
-                Answered { answer, voice }
-            }
+        if refusal::is_sample_rate(sample_rate_hz) {
+            let voice = self.initialized(sample_rate_hz);
+            return Answered {
+                answer: Answer::Accepted,
+                voice,
+            };
+        }
+        Answered {
+            answer: Answer::Refused(Refusal::SampleRate),
+            voice: self,
         }
     }
 
@@ -176,7 +172,7 @@ impl SyntheticSnareDrum {
     }
 
     // The filters at the block's frequencies.
-    fn tuned(mut self, settings: Settings) -> Self
+    fn tuned(self, settings: Settings) -> Self
         ensures { λ r. ⌜ r ≡ spec.tuned settings self ⌝ }
     {
         let snare_f_min = ieee754::minimum_number(10.0 * settings.f0, 0.5);
@@ -190,24 +186,30 @@ impl SyntheticSnareDrum {
         );
         let drum_lp = self.drum_lp
             .set_f(3.0 * settings.f0, FrequencyApproximation::Fast);
-        self.snare_hp = snare_hp;
-        self.snare_lp = snare_lp;
-        self.drum_lp = drum_lp;
-        self
+        SyntheticSnareDrum {
+            drum_lp,
+            snare_hp,
+            snare_lp,
+            ..self
+        }
     }
 
-    fn triggered(mut self, trigger: bool, accent: f32, decay: f32) -> Self
+    fn triggered(self, trigger: bool, accent: f32, decay: f32) -> Self
         ensures { λ r. ⌜ r ≡ spec.triggered self trigger accent decay ⌝ }
     {
-        if !trigger {
-            return self;
+        if trigger {
+            let snare_amplitude = 0.3 + 0.7 * accent;
+            SyntheticSnareDrum {
+                phase: [0.0, 0.0],
+                drum_amplitude: snare_amplitude,
+                snare_amplitude,
+                fm: 1.0,
+                hold_counter: ieee754::truncate_u32((0.04 + decay * 0.03) * self.sample_rate_hz),
+                ..self
+            }
+        } else {
+            self
         }
-        self.snare_amplitude = 0.3 + 0.7 * accent;
-        self.drum_amplitude = self.snare_amplitude;
-        self.fm = 1.0;
-        self.phase = [0.0, 0.0];
-        self.hold_counter = ieee754::truncate_u32((0.04 + decay * 0.03) * self.sample_rate_hz);
-        self
     }
 
     // The state as the loop begins.
@@ -381,9 +383,11 @@ impl Sounding {
     fn ended(self) -> SyntheticSnareDrum
         ensures { λ r. ⌜ r ≡ spec.ended self ⌝ }
     {
-        let mut voice = self.voice;
-        voice.sustain_gain = self.gain.value;
-        voice
+        let voice = self.voice;
+        SyntheticSnareDrum {
+            sustain_gain: self.gain.value,
+            ..voice
+        }
     }
 }
 

@@ -1,13 +1,11 @@
--- `analog_snare_drum::tuned_mode` meets its contract. Assumes nothing.
+-- Line by line the definition.
 use borrow.Author.Needs.{needs}
 use lib.Ieee.{round, ofBits}
 use Rattle.analog_snare_drum.specs.AnalogSnareDrum.{tunedMode}
 use Rattle.analog_snare_drum.proofs.tuned_mode.Statement.{statement}
 use Rattle.analog_snare_drum.proofs.tuned_mode.Tie as tie
 
-returns : tie.Need-returns
-unfolding tunedMode round ofBits
-returns c = rw (c .set-f-q .ensures, c .before .minimum-number .ensures)
-
 pub tuned-mode-spec : {M : Type 1} → statement M
-tuned-mode-spec = tie.close (tie.spec (λ c κs. search needs) (λ c κs. search needs) returns)
+unfolding tunedMode round ofBits
+tuned-mode-spec =
+    tie.close (tie.spec (λ c κs. search needs) (λ c κs. search needs) (λ c. rw (c .set-f-q .ensures, c .before .minimum-number .ensures)))

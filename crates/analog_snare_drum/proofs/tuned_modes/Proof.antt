@@ -1,4 +1,4 @@
--- `analog_snare_drum::tuned_modes` meets its contract. Assumes nothing.
+-- A mode at each place, the last call first; the frequencies are those of the definition.
 use borrow.Author.Needs.{needs}
 use lib.Ieee.{round, ofBits}
 use Rattle.analog_snare_drum.specs.AnalogSnareDrum.{tunedModes, «MODE_FREQUENCIES»}
@@ -12,13 +12,7 @@ returns c =
     let c₂ = c₁ .before .before in
     let c₃ = c₂ .before .before in
     let c₄ = c₃ .before .before in
-    rw (
-      c .tuned-mode5 .ensures,
-      c₁ .tuned-mode4 .ensures,
-      c₂ .tuned-mode3 .ensures,
-      c₃ .tuned-mode2 .ensures,
-      c₄ .tuned-mode .ensures,
-    )
+    rw (c .tuned-mode5 .ensures, c₁ .tuned-mode4 .ensures, c₂ .tuned-mode3 .ensures, c₃ .tuned-mode2 .ensures, c₄ .tuned-mode .ensures)
 
 pub tuned-modes-spec : {M : Type 1} → statement M
 tuned-modes-spec =

@@ -1,4 +1,4 @@
--- `hihat::block_settings` meets its contract. Assumes nothing.
+-- Both pitches lie in the tables, so `unwrap_or` replaces neither ratio; then line by line the definition.
 use borrow.Author.Needs.{needs}
 use native.Mathlib.Omega.{arith}
 use lib.Ieee.{round, ofBits}
@@ -10,20 +10,14 @@ use Rattle.hihat.proofs.block_settings.Tie as tie
 returns : tie.Need-returns
 unfolding settings round ofBits
 returns c =
-    let c₁ = c .before in
-    let c₂ = c₁ .before in
-    let c₃ = c₂ .before .before in
-    let s = c₃ .before .before in
-    rw (
-      c .clamp .ensures,
-      c₁ .increments .ensures,
-      c₂ .unwrap-or2 .ensures,
-      c₂ .before .semitones-to-ratio2 .ensures .exact,
-      minus-knob-ratio 36 (omega arith) (s .args .decay) _ (s .pre),
-      c₃ .unwrap-or .ensures,
-      c₃ .before .semitones-to-ratio .ensures .exact,
-      minus-knob-ratio 84 (omega arith) (s .args .decay) _ (s .pre),
-    )
+    let at-increments = c .before in
+    let at-cut = at-increments .before in
+    let at-envelope = at-cut .before .before in
+    let at-start = at-envelope .before .before in
+    let decay = at-start .args .decay in
+    rw (c .clamp .ensures, at-increments .increments .ensures, at-cut .unwrap-or2 .ensures, at-cut .before .semitones-to-ratio2 .ensures .exact)
+    (rw (minus-knob-ratio 36 (omega arith) decay _ (at-start .pre), at-envelope .unwrap-or .ensures)
+    (rw (at-envelope .before .semitones-to-ratio .ensures .exact, minus-knob-ratio 84 (omega arith) decay _ (at-start .pre))))
 
 pub block-settings-spec : {M : Type 1} → statement M
 block-settings-spec =

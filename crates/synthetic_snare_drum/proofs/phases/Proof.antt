@@ -1,4 +1,4 @@
--- `synthetic_snare_drum::phases` meets its contract. Assumes nothing.
+-- Line by line the definition, the last call first.
 use borrow.Author.Needs.{needs}
 use lib.Ieee.{round, ofBits}
 use Rattle.synthetic_snare_drum.specs.SyntheticSnareDrum.{phases}
@@ -8,8 +8,9 @@ use Rattle.synthetic_snare_drum.proofs.phases.Tie as tie
 returns : tie.Need-returns
 unfolding phases round ofBits
 returns c =
-    let s = c .before .before .before .before in
-    rw (c .reset2 .ensures, c .before .reset .ensures, s .reset-sign2 .ensures, s .before .reset-sign .ensures, s .before .before .reset-noise-amount .ensures)
+    let second = c .before .before .before .before in
+    let first = second .before in
+    rw (c .reset2 .ensures, c .before .reset .ensures, second .reset-sign2 .ensures, first .reset-sign .ensures, first .before .reset-noise-amount .ensures)
 
 pub phases-spec : {M : Type 1} → statement M
 phases-spec =

@@ -1,4 +1,4 @@
--- `analog_bass_drum::AnalogBassDrum::excitation` meets its contract: the last call first. Assumes nothing.
+-- Line by line the definition, the last call first.
 use borrow.Author.Needs.{needs}
 use lib.Ieee.{round, ofBits}
 use Rattle.analog_bass_drum.specs.AnalogBassDrum.{excitation}
@@ -8,11 +8,12 @@ use Rattle.analog_bass_drum.proofs.AnalogBassDrum.excitation.Tie as tie
 returns : tie.Need-returns
 unfolding excitation round ofBits
 returns c =
-    let c₁ = c .before .before in
-    let c₂ = c₁ .before .before in
-    let c₃ = c₂ .before in
-    let c₄ = c₃ .before .before .before in
-    rw (c₁ .one-pole2 .ensures, c₂ .fm-pulse .ensures, c₃ .diode .ensures, c₄ .one-pole .ensures, c₄ .before .before .next .ensures)
+    let at-fm-lp = c .before .before in
+    let at-fm = at-fm-lp .before .before in
+    let at-diode = at-fm .before in
+    let at-lp = at-diode .before .before .before in
+    let at-pulse = at-lp .before .before in
+    rw (at-fm-lp .one-pole2 .ensures, at-fm .fm-pulse .ensures, at-diode .diode .ensures, at-lp .one-pole .ensures, at-pulse .next .ensures)
 
 pub excitation-spec : {M : Type 1} → statement M
 excitation-spec =

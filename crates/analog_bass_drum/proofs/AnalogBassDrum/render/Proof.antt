@@ -1,31 +1,35 @@
--- `analog_bass_drum::AnalogBassDrum::render` meets its contract. Assumes nothing.
+-- The number of the answer decides what the call leaves; an accepted one's knobs lie between their bounds.
 use borrow.Author.Needs.{needs}
-use mathlib.Core.Path.{sym}
-use Rattle.refusal.proofs.ByNumber.{zero-of, arm-accepted, arm-refused}
-use Rattle.analog_bass_drum.proofs.Laws.{knobs-in}
+use mathlib.Core.Path.{_≡_, refl}
+use Prim.Native.Nat.{ℕ}
+use lib.Ieee.{Float}
+use Rattle.refusal.proofs.ByNumber.{zero-of, suc-of, KnobsIn, block-passed}
+use Rattle.analog_bass_drum.specs.AnalogBassDrum.{renderRefusal}
 use Rattle.analog_bass_drum.proofs.AnalogBassDrum.render.Statement.{statement}
 use Rattle.analog_bass_drum.proofs.AnalogBassDrum.render.Tie as tie
 
+knobs-in : (size : ℕ) (accent f0 tone decay a s : Float) → renderRefusal size accent f0 tone decay a s ≡ 0 → KnobsIn accent f0 tone decay a
+unfolding renderRefusal
+knobs-in size accent f0 tone decay a s h = block-passed size f0 accent tone decay a _ h .1
+
 new-requires : tie.Need-new-requires
-new-requires c κs = knobs-in _ _ _ _ _ _ _ (zero-of _ _ (c .before .before .asked .ensures) (c .enum-told2 .given .1))
+new-requires c κs =
+    let k = knobs-in _ _ _ _ _ _ _ (zero-of _ _ (c .before .before .asked .ensures) (c .enum-told2 .given .1)) in
+    (k .a-in, k .decay-in)
 
-returns : tie.Need-returns
-returns c =
-    let known = c .before .before .asked .ensures in
-    let told = c .enum-told .given .1 in
-    (known, (sym (arm-refused _ _ _ _ known _ told), sym (arm-refused _ _ _ _ known _ told)))
+refused : tie.Need-returns
+refused c = let known = c .before .before .asked .ensures in (known, rw (suc-of _ _ known _ (c .enum-told .given .1)) (refl, refl))
 
-returns-2 : tie.Need-returns-2
-returns-2 c =
+accepted : tie.Need-returns-2
+accepted c =
     let ran = c .before .before in
     let set = ran .before .before .before in
     let known = set .before .before .before .asked .ensures in
-    let told = set .before .enum-told2 .given .1 in
-    rw (ran .run .ensures .0, ran .run .ensures .1, ran .before .before .triggered .ensures, set .new .ensures)
-    (known, (sym (arm-accepted _ _ _ _ known told), sym (arm-accepted _ _ _ _ known told)))
+    let none = zero-of _ _ known (set .before .enum-told2 .given .1) in
+    (known, rw (ran .run .ensures .0, ran .run .ensures .1, ran .before .before .triggered .ensures, set .new .ensures, none) (refl, refl))
 
 pub render-spec : {M : Type 1} → statement M
 render-spec =
     tie.close
-    (tie.spec (λ c κs. search needs) (λ c. search needs) (λ c. search needs) new-requires (λ c κs. search needs) (λ c κs. search needs) returns
-    (λ c. search needs) returns-2)
+    (tie.spec (λ c κs. search needs) (λ c. search needs) (λ c. search needs) new-requires (λ c κs. search needs) (λ c κs. search needs) refused
+    (λ c. search needs) accepted)

@@ -1,4 +1,4 @@
--- `analog_bass_drum::AnalogBassDrum::step` meets its contract: the last call first. Assumes nothing.
+-- Line by line the definition, the last call first; the excitation is the one that the caller kept.
 use borrow.Author.Needs.{needs}
 use lib.Ieee.{round, ofBits}
 use Rattle.analog_bass_drum.specs.AnalogBassDrum.{step}
@@ -8,19 +8,13 @@ use Rattle.analog_bass_drum.proofs.AnalogBassDrum.step.Tie as tie
 returns : tie.Need-returns
 unfolding step round ofBits
 returns c =
-    let c₁ = c .before in
-    let c₂ = c₁ .before .before .before in
-    let c₃ = c₂ .before .before .before .before in
-    let c₄ = c₃ .before .before in
-    let c₅ = c₄ .before in
-    rw (
-      c₁ .one-pole .ensures,
-      c₂ .process-dual .ensures,
-      c₃ .set-f-q .ensures,
-      c₄ .frequency .ensures,
-      c₅ .fm-pulse .ensures,
-      c₅ .before .pre,
-    )
+    let at-tone = c .before in
+    let at-dual = at-tone .before .before .before in
+    let at-tuned = at-dual .before .before .before .before in
+    let at-frequency = at-tuned .before .before in
+    let at-fm = at-frequency .before in
+    rw (at-tone .one-pole .ensures, at-dual .process-dual .ensures, at-tuned .set-f-q .ensures, at-frequency .frequency .ensures)
+    (rw (at-fm .fm-pulse .ensures, at-fm .before .pre))
 
 pub step-spec : {M : Type 1} → statement M
 step-spec =

@@ -1,17 +1,9 @@
--- `analog_bass_drum::AnalogBassDrum::triggered` meets its contract. Assumes nothing.
-use borrow.Author.Tests.{not-true, not-false}
+-- The definition's two arms, by the trigger.
 use lib.Ieee.{round, ofBits}
 use Rattle.analog_bass_drum.specs.AnalogBassDrum.{triggered}
 use Rattle.analog_bass_drum.proofs.AnalogBassDrum.triggered.Statement.{statement}
 use Rattle.analog_bass_drum.proofs.AnalogBassDrum.triggered.Tie as tie
 
-returns : tie.Need-returns
-unfolding triggered round ofBits
-returns c = rw (not-true (c .before .args .trigger) (c .if1 .taken))
-
-returns-2 : tie.Need-returns-2
-unfolding triggered round ofBits
-returns-2 c = rw (not-false (c .before .args .trigger) (c .if1 .left))
-
 pub triggered-spec : {M : Type 1} → statement M
-triggered-spec = tie.close (tie.spec returns returns-2)
+unfolding triggered round ofBits
+triggered-spec = tie.close (tie.spec (λ c. rw (c .before .if1 .taken)) (λ c. rw (c .if1 .left)))

@@ -1,4 +1,4 @@
--- `analog_bass_drum::Settings::new` meets its contract. Assumes nothing.
+-- Both pitches lie in the tables, so `unwrap_or` replaces neither ratio; then line by line the definition.
 use borrow.Author.Needs.{needs}
 use native.Mathlib.Omega.{arith}
 use lib.Ieee.{round, ofBits}
@@ -10,18 +10,13 @@ use Rattle.analog_bass_drum.proofs.Settings.new.Tie as tie
 returns : tie.Need-returns
 unfolding settings round ofBits
 returns c =
-    let c₂ = c .before in
-    let c₁ = c₂ .before .before in
-    let s = c₁ .before .before in
-    rw (
-      c .minimum-number .ensures,
-      c₂ .unwrap-or2 .ensures,
-      c₂ .before .semitones-to-ratio2 .ensures .exact,
-      knob-ratio 108 (omega arith) (s .args .tone) _ (s .pre .0),
-      c₁ .unwrap-or .ensures,
-      c₁ .before .semitones-to-ratio .ensures .exact,
-      knob-ratio 80 (omega arith) (s .args .decay) _ (s .pre .1),
-    )
+    let at-tone = c .before in
+    let at-decay = at-tone .before .before in
+    let at-start = at-decay .before .before in
+    let knobs = at-start .args in
+    rw (c .minimum-number .ensures, at-tone .unwrap-or2 .ensures, at-tone .before .semitones-to-ratio2 .ensures .exact)
+    (rw (knob-ratio 108 (omega arith) (knobs .tone) _ (at-start .pre .0), at-decay .unwrap-or .ensures)
+    (rw (at-decay .before .semitones-to-ratio .ensures .exact, knob-ratio 80 (omega arith) (knobs .decay) _ (at-start .pre .1))))
 
 pub new-spec : {M : Type 1} → statement M
 new-spec =

@@ -1,4 +1,4 @@
--- `analog_snare_drum::AnalogSnareDrum::initialized` meets its contract. Assumes nothing.
+-- The calls' values in the definition's record, the last first.
 use borrow.Author.Needs.{needs}
 use lib.Ieee.{round, ofBits}
 use Rattle.analog_snare_drum.specs.AnalogSnareDrum.{initialized}
@@ -8,23 +8,14 @@ use Rattle.analog_snare_drum.proofs.AnalogSnareDrum.initialized.Tie as 
 returns : tie.Need-returns
 unfolding initialized round ofBits
 returns c =
-    let c₁ = c .before in
-    let c₂ = c₁ .before in
-    let c₃ = c₂ .before in
-    let c₄ = c₃ .before .before in
-    let c₅ = c₄ .before .before in
-    let c₆ = c₅ .before .before in
-    let c₇ = c₆ .before .before in
-    rw (
-      c .truncate-u322 .ensures,
-      c₁ .truncate-u32 .ensures,
-      c₂ .init6 .ensures,
-      c₃ .init5 .ensures,
-      c₄ .init4 .ensures,
-      c₅ .init3 .ensures,
-      c₆ .init2 .ensures,
-      c₇ .init .ensures,
-    )
+    let f₅ = c .before .before in
+    let f₄ = f₅ .before in
+    let f₃ = f₄ .before .before in
+    let f₂ = f₃ .before .before in
+    let f₁ = f₂ .before .before in
+    let f₀ = f₁ .before .before in
+    rw (c .truncate-u322 .ensures, c .before .truncate-u32 .ensures)
+    (rw (f₅ .init6 .ensures, f₄ .init5 .ensures, f₃ .init4 .ensures, f₂ .init3 .ensures, f₁ .init2 .ensures, f₀ .init .ensures))
 
 pub initialized-spec : {M : Type 1} → statement M
 initialized-spec =

@@ -1,4 +1,4 @@
--- `analog_snare_drum::AnalogSnareDrum::run` meets its contract, by `block`'s law of a source's loop. Assumes nothing.
+-- The loop's law of `block`; an excitation that is kept at rest stays right.
 use borrow.Author.Needs.{needs}
 use borrow.Author.Tests.{not-false}
 use Prim.Native.Nat.{_-_}
@@ -22,38 +22,23 @@ abbrev μ-loop : tie.MeasureT-loop
 loop-holds : tie.Need-loop-holds Inv-loop μ-loop
 loop-holds c = (begin _ _ _ _ (omega arith), record { current = c .before .excitation .ensures; rest = c .is-at-rest .ensures .0 })
 
-step-requires : tie.Need-step-requires Inv-loop μ-loop
-step-requires c κs = c .before .loop .inv .1 .current
-
-loop-less : tie.Need-loop-less Inv-loop μ-loop
-loop-less c = simp length-set (omega arith)
-
-loop-again : tie.Need-loop-again Inv-loop μ-loop
-loop-again c =
+-- a turn that makes the excitation anew, and one that keeps it
+made : tie.Need-loop-again Inv-loop μ-loop
+made c =
     let s = c .before .before .before .before in
     let l = s .before .before .loop in (
       rw (s .step .ensures) (going _ _ _ _ _ _ _ (l .inv .0) (omega (arith, l .inv .0 .long))),
       record { current = c .before .excitation2 .ensures; rest = c .is-at-rest2 .ensures .0 },
     )
 
-loop-less-2 : tie.Need-loop-less-2 Inv-loop μ-loop
-loop-less-2 c = simp length-set (omega arith)
-
-loop-again-2 : tie.Need-loop-again-2 Inv-loop μ-loop
-loop-again-2 c =
+keeps : tie.Need-loop-again-2 Inv-loop μ-loop
+keeps c =
     let s = c .before .before in
     let l = s .before .before .loop in
-    rw (s .step .ensures)
-    (going _ _ _ _ _ _ _ (l .inv .0) (omega (arith, l .inv .0 .long)), kept _ _ _ _ _ (not-false _ (c .if1 .left)) (l .inv .1))
-
-same-length : tie.Need-same-length Inv-loop μ-loop
-same-length c = c .before .loop .inv .0 .long
-
-returns : tie.Need-returns Inv-loop μ-loop
-returns c = end-source _ _ _ _ _ _ (c .before .loop .inv .0) (c .loop-test .left)
+    rw (s .step .ensures) (going _ _ _ _ _ _ _ (l .inv .0) (omega (arith, l .inv .0 .long)), kept _ _ _ _ _ (not-false _ (c .if1 .left)) (l .inv .1))
 
 pub run-spec : {M : Type 1} → statement M
 run-spec =
-    tie.close
-    (tie.spec Inv-loop μ-loop (λ c κs. search needs) (λ c κs. search needs) loop-holds step-requires (λ c. search needs) (λ c. search needs)
-    (λ c. search needs) (λ c κs. search needs) (λ c κs. search needs) loop-less loop-again loop-less-2 loop-again-2 same-length returns)
+    tie.close (tie.spec Inv-loop μ-loop (λ c κs. search needs) (λ c κs. search needs) loop-holds (λ c κs. search needs) (λ c. search needs)
+    (λ c. search needs) (λ c. search needs) (λ c κs. search needs) (λ c κs. search needs) (λ c. simp length-set (omega arith)) made
+    (λ c. simp length-set (omega arith)) keeps (λ c. search needs) (λ c. end-source _ _ _ _ _ _ (c .before .loop .inv .0) (c .loop-test .left)))

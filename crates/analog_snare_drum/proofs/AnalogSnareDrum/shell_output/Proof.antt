@@ -1,4 +1,4 @@
--- `analog_snare_drum::AnalogSnareDrum::shell_output` meets its contract. Assumes nothing.
+-- The modes one after the other, the last call first.
 use borrow.Author.Needs.{needs}
 use lib.Ieee.{round, ofBits}
 use Rattle.analog_snare_drum.specs.AnalogSnareDrum.{shellOutput}
@@ -13,14 +13,8 @@ returns c =
     let c₃ = c₂ .before .before in
     let c₄ = c₃ .before .before in
     let c₅ = c₄ .before .before in
-    rw (
-      c .soft-clip .ensures,
-      c₁ .mode-output5 .ensures,
-      c₂ .mode-output4 .ensures,
-      c₃ .mode-output3 .ensures,
-      c₄ .mode-output2 .ensures,
-      c₅ .mode-output .ensures,
-    )
+    rw (c .soft-clip .ensures, c₁ .mode-output5 .ensures, c₂ .mode-output4 .ensures, c₃ .mode-output3 .ensures)
+    (rw (c₄ .mode-output2 .ensures, c₅ .mode-output .ensures))
 
 pub shell-output-spec : {M : Type 1} → statement M
 shell-output-spec =

@@ -1,13 +1,13 @@
--- `hihat::Hihat::initialized` meets its contract. Assumes nothing.
+-- The calls' values in the definition's record.
 use borrow.Author.Needs.{needs}
 use lib.Ieee.{round, ofBits}
 use Rattle.hihat.specs.Hihat.{initialized}
 use Rattle.hihat.proofs.Hihat.initialized.Statement.{statement}
 use Rattle.hihat.proofs.Hihat.initialized.Tie as tie
 
-returns : tie.Need-returns
-unfolding initialized round ofBits
-returns c = rw (c .init3 .ensures, c .before .init2 .ensures, c .before .before .init .ensures)
-
 pub initialized-spec : {M : Type 1} → statement M
-initialized-spec = tie.close (tie.spec (λ c κs. search needs) (λ c κs. search needs) (λ c κs. search needs) returns)
+unfolding initialized round ofBits
+initialized-spec =
+    tie.close
+    (tie.spec (λ c κs. search needs) (λ c κs. search needs) (λ c κs. search needs)
+    (λ c. rw (c .init3 .ensures, c .before .init2 .ensures, c .before .before .init .ensures)))

@@ -1,4 +1,4 @@
--- `hihat::Hihat::tuned` meets its contract. Assumes nothing.
+-- The pitch lies in the tables, so `unwrap_or` does not replace its ratio; then line by line the definition.
 use borrow.Author.Needs.{needs}
 use native.Mathlib.Omega.{arith}
 use lib.Ieee.{round, ofBits}
@@ -10,21 +10,14 @@ use Rattle.hihat.proofs.Hihat.tuned.Tie as tie
 returns : tie.Need-returns
 unfolding tuned round ofBits
 returns c =
-    let c₁ = c .before in
-    let c₂ = c₁ .before in
-    let c₃ = c₂ .before in
-    let c₄ = c₃ .before in
-    let c₅ = c₄ .before .before .before in
-    let s = c₅ .before .before in
-    rw (
-      c₁ .set-f-q2 .ensures,
-      c₂ .set-f-q .ensures,
-      c₃ .coloration-q .ensures,
-      c₄ .clamp .ensures,
-      c₅ .unwrap-or .ensures,
-      c₅ .before .semitones-to-ratio .ensures .exact,
-      knob-ratio 72 (omega arith) (s .args .tone) _ (s .pre),
-    )
+    let at-high = c .before in
+    let at-color = at-high .before in
+    let at-q = at-color .before in
+    let at-cutoff = at-q .before in
+    let at-ratio = at-cutoff .before .before .before in
+    let at-start = at-ratio .before .before in
+    rw (at-high .set-f-q2 .ensures, at-color .set-f-q .ensures, at-q .coloration-q .ensures, at-cutoff .clamp .ensures, at-ratio .unwrap-or .ensures)
+    (rw (at-ratio .before .semitones-to-ratio .ensures .exact, knob-ratio 72 (omega arith) (at-start .args .tone) _ (at-start .pre)))
 
 pub tuned-spec : {M : Type 1} → statement M
 tuned-spec =

@@ -1,7 +1,6 @@
--- `hihat::square_noise::increments` meets its contract. Assumes nothing.
+-- An increment at each of the six places, the last call first; the ratios are those of the definition.
 use borrow.Author.Needs.{needs}
 use lib.Ieee.{round, ofBits}
-use Rattle.hihat.proofs.Six.{same-six}
 use Rattle.hihat.specs.SquareNoise.{increments, ratios}
 use Rattle.hihat.proofs.square_noise.increments.Statement.{statement}
 use Rattle.hihat.proofs.square_noise.increments.Tie as tie
@@ -13,7 +12,8 @@ returns c =
     let c₄ = c₅ .before in
     let c₃ = c₄ .before in
     let c₂ = c₃ .before in
-    same-six (c₂ .before .increment-at .ensures) (c₂ .increment-at2 .ensures) (c₃ .increment-at3 .ensures) (c₄ .increment-at4 .ensures) (c₅ .increment-at5 .ensures) (c .increment-at6 .ensures)
+    rw (c .increment-at6 .ensures, c₅ .increment-at5 .ensures, c₄ .increment-at4 .ensures)
+    (rw (c₃ .increment-at3 .ensures, c₂ .increment-at2 .ensures, c₂ .before .increment-at .ensures))
 
 pub increments-spec : {M : Type 1} → statement M
 increments-spec =

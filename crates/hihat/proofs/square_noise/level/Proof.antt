@@ -1,4 +1,4 @@
--- `hihat::square_noise::level` meets its contract. Assumes nothing.
+-- At most six phases count, which a float holds exactly; then line by line the definition.
 use borrow.Author.Needs.{needs}
 use Prim.Native.Nat.{_^_}
 use native.Mathlib.Omega.{arith}

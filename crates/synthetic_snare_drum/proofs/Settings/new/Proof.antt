@@ -1,7 +1,7 @@
--- `synthetic_snare_drum::Settings::new` meets its contract. Assumes nothing.
+-- Both pitches lie in the tables, so `unwrap_or` replaces neither ratio; then line by line the definition.
 use borrow.Author.Needs.{needs}
 use lib.Ieee.{round, ofBits}
-use Rattle.synthetic_snare_drum.proofs.Laws.{drum-ratio, snare-ratio}
+use Rattle.synthetic_snare_drum.proofs.Pitches.{drum-ratio, snare-ratio}
 use Rattle.synthetic_snare_drum.specs.SyntheticSnareDrum.{settings}
 use Rattle.synthetic_snare_drum.proofs.Settings.new.Statement.{statement}
 use Rattle.synthetic_snare_drum.proofs.Settings.new.Tie as tie
@@ -9,21 +9,14 @@ use Rattle.synthetic_snare_drum.proofs.Settings.new.Tie as tie
 returns : tie.Need-returns
 unfolding settings round ofBits
 returns c =
-    let c₂ = c .before .before .before in
-    let c₁ = c₂ .before .before in
-    let s = c₁ .before .before in
-    let a = s .args in
-    rw (
-      c .sqrt2 .ensures,
-      c .before .sqrt .ensures,
-      c .before .before .clamp .ensures,
-      c₂ .unwrap-or2 .ensures,
-      c₂ .before .semitones-to-ratio2 .ensures .exact,
-      snare-ratio (a .fm-amount) (a .decay) (a .snappy) _ (s .pre),
-      c₁ .unwrap-or .ensures,
-      c₁ .before .semitones-to-ratio .ensures .exact,
-      drum-ratio (a .fm-amount) (a .decay) (a .snappy) _ (s .pre),
-    )
+    let at-snare = c .before .before .before in
+    let at-drum = at-snare .before .before in
+    let at-start = at-drum .before .before in
+    let a = at-start .args in
+    rw (c .sqrt2 .ensures, c .before .sqrt .ensures, c .before .before .clamp .ensures)
+    (rw (at-snare .unwrap-or2 .ensures, at-snare .before .semitones-to-ratio2 .ensures .exact)
+    (rw (snare-ratio (a .fm-amount) (a .decay) (a .snappy) _ (at-start .pre), at-drum .unwrap-or .ensures)
+    (rw (at-drum .before .semitones-to-ratio .ensures .exact, drum-ratio (a .fm-amount) (a .decay) (a .snappy) _ (at-start .pre)))))
 
 pub new-spec : {M : Type 1} → statement M
 new-spec =

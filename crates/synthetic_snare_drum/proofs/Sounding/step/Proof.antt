@@ -1,4 +1,4 @@
--- `synthetic_snare_drum::Sounding::step` meets its contract. Assumes nothing.
+-- The parts of the turn one after the other, as in the definition.
 use borrow.Author.Needs.{needs}
 use Rattle.synthetic_snare_drum.specs.SyntheticSnareDrum.{step}
 use Rattle.synthetic_snare_drum.proofs.Sounding.step.Statement.{statement}
@@ -7,15 +7,11 @@ use Rattle.synthetic_snare_drum.proofs.Sounding.step.Tie as tie
 returns : tie.Need-returns
 unfolding step
 returns c =
-    let c₁ = c .before .before .before .before .before .before in
-    let c₂ = c₁ .before .before .before in
-    rw (
-      c₁ .snare .ensures,
-      c₁ .before .get-float .ensures,
-      c₁ .before .before .drum .ensures,
-      c₂ .phases .ensures,
-      c₂ .before .before .envelopes .ensures,
-    )
+    let at-snare = c .before .before .before .before .before .before in
+    let at-drum = at-snare .before .before in
+    let at-phases = at-drum .before in
+    let at-start = at-phases .before .before in
+    rw (at-snare .snare .ensures, at-snare .before .get-float .ensures, at-drum .drum .ensures, at-phases .phases .ensures, at-start .envelopes .ensures)
 
 pub step-spec : {M : Type 1} → statement M
 step-spec =

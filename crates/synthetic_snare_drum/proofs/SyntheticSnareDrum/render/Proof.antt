@@ -1,34 +1,45 @@
--- `synthetic_snare_drum::SyntheticSnareDrum::render` meets its contract. Assumes nothing.
+-- The number of the answer decides what the call leaves; an accepted one's length and knobs lie between their bounds.
 use borrow.Author.Needs.{needs}
-use mathlib.Core.Path.{sym}
-use Rattle.refusal.proofs.ByNumber.{zero-of, arm-accepted, arm-refused}
-use Rattle.synthetic_snare_drum.proofs.Laws.{bounds-in}
+use mathlib.Core.Path.{_≡_, refl}
+use Prim.Native.Nat.{ℕ, _≤_}
+use native.Mathlib.Omega.{arith}
+use lib.Ieee.{Float}
+use Rattle.refusal.specs.Refusal.{isSampleRate}
+use Rattle.refusal.proofs.ByNumber.{zero-of, suc-of, passed, KnobsIn, block-passed}
+use Rattle.synthetic_snare_drum.specs.SyntheticSnareDrum.{renderRefusal}
 use Rattle.synthetic_snare_drum.proofs.SyntheticSnareDrum.render.Statement.{statement}
 use Rattle.synthetic_snare_drum.proofs.SyntheticSnareDrum.render.Tie as tie
 
+knobs-in : (rate : Float) (size : ℕ) (accent f0 fm decay snappy : Float) → renderRefusal rate size accent f0 fm decay snappy ≡ 0
+    → (size ≤ 16384) × KnobsIn accent f0 fm decay snappy
+unfolding renderRefusal
+knobs-in rate size accent f0 fm decay snappy h =
+    block-passed size f0 accent fm decay snappy _ (passed (isSampleRate rate) 1 _ (omega arith) h .1)
+
 new-requires : tie.Need-new-requires
-new-requires c κs = bounds-in _ _ _ _ _ _ _ (zero-of _ _ (c .before .before .asked .ensures) (c .enum-told2 .given .1)) .1
+new-requires c κs =
+    let k = knobs-in _ _ _ _ _ _ _ (zero-of _ _ (c .before .before .asked .ensures) (c .enum-told2 .given .1)) .1 in
+    (k .a-in, (k .decay-in, k .c-in))
 
 begun-requires : tie.Need-begun-requires
-begun-requires c κs = let m = c .before in bounds-in _ _ _ _ _ _ _ (zero-of _ _ (m .before .before .asked .ensures) (m .enum-told2 .given .1)) .0
+begun-requires c κs =
+    let told = c .before in
+    knobs-in _ _ _ _ _ _ _ (zero-of _ _ (told .before .before .asked .ensures) (told .enum-told2 .given .1)) .0
 
-returns : tie.Need-returns
-returns c =
-    let known = c .before .before .asked .ensures in
-    let told = c .enum-told .given .1 in
-    (known, (sym (arm-refused _ _ _ _ known _ told), (sym (arm-refused _ _ _ _ known _ told), sym (arm-refused _ _ _ _ known _ told))))
+refused : tie.Need-returns
+refused c = let known = c .before .before .asked .ensures in (known, rw (suc-of _ _ known _ (c .enum-told .given .1)) (refl, (refl, refl)))
 
-returns-2 : tie.Need-returns-2
-returns-2 c =
+accepted : tie.Need-returns-2
+accepted c =
     let ran = c .before .before .before in
-    let set = ran .before .before .before in
+    let begins = ran .before .before in
+    let set = begins .before in
     let known = set .before .before .before .asked .ensures in
-    let told = set .before .enum-told2 .given .1 in
-    rw (c .ended .ensures, ran .run .ensures .0, ran .run .ensures .1, ran .before .before .begun .ensures, set .new .ensures)
-    (known, (sym (arm-accepted _ _ _ _ known told), (sym (arm-accepted _ _ _ _ known told), sym (arm-accepted _ _ _ _ known told))))
+    let none = zero-of _ _ known (set .before .enum-told2 .given .1) in
+    (known, rw (c .ended .ensures, ran .run .ensures .0, ran .run .ensures .1, begins .begun .ensures, set .new .ensures, none) (refl, (refl, refl)))
 
 pub render-spec : {M : Type 1} → statement M
 render-spec =
     tie.close
     (tie.spec (λ c κs. search needs) (λ c. search needs) (λ c. search needs) new-requires begun-requires (λ c κs. search needs) (λ c κs. search needs)
-    returns (λ c. search needs) returns-2)
+    refused (λ c. search needs) accepted)

@@ -1,4 +1,4 @@
--- `hihat::chain::Chain::step` meets its contract: the last call first. Assumes nothing.
+-- The passes one after the other, the last call first.
 use borrow.Author.Needs.{needs}
 use mathlib.Core.Path.{refl}
 use Rattle.block.specs.Block.{then, into}
@@ -9,22 +9,12 @@ use Rattle.hihat.proofs.chain.Chain.step.Tie as tie
 returns : tie.Need-returns
 unfolding into then stage
 returns c =
-    let c₅ = c .before .before .before .before .before in
-    let c₄ = c₅ .before in
-    let c₃ = c₄ .before in
-    let c₂ = c₃ .before in
-    let c₁ = c₂ .before in
-    rw (
-      c₅ .process2 .ensures,
-      c₄ .step3 .ensures .0,
-      c₄ .step3 .ensures .1,
-      c₃ .step2 .ensures .0,
-      c₃ .step2 .ensures .1,
-      c₂ .process .ensures,
-      c₁ .step .ensures .0,
-      c₁ .step .ensures .1,
-    )
-    (refl, refl)
+    let high = c .before .before .before .before .before in
+    let amplified = high .before .step3 .ensures in
+    let clocked = high .before .before .step2 .ensures in
+    let colored = high .before .before .before in
+    let square = colored .before .step .ensures in
+    rw (high .process2 .ensures, amplified .0, amplified .1, clocked .0, clocked .1, colored .process .ensures, square .0, square .1) (refl, refl)
 
 pub step-spec : {M : Type 1} → statement M
 step-spec =

@@ -1,17 +1,22 @@
--- `hihat::chain::Vca::step` meets its contract. Assumes nothing.
+-- Line by line the definition, in a sustained block and in any other.
 use borrow.Author.Needs.{needs}
 use mathlib.Core.Path.{refl}
 use Rattle.hihat.specs.Chain.{amplified}
 use Rattle.hihat.proofs.chain.Vca.step.Statement.{statement}
 use Rattle.hihat.proofs.chain.Vca.step.Tie as tie
 
-returns : tie.Need-returns
+sustained : tie.Need-returns
 unfolding amplified
-returns c = rw (c .amplify .ensures, c .before .next .ensures, c .before .before .before .before .decay .ensures, c .before .before .if1 .taken) (refl, refl)
+sustained c =
+    let at-test = c .before .before in
+    rw (c .amplify .ensures, c .before .next .ensures, at-test .before .before .decay .ensures, at-test .if1 .taken) (refl, refl)
 
-returns-2 : tie.Need-returns-2
+decaying : tie.Need-returns-2
 unfolding amplified
-returns-2 c = rw (c .amplify2 .ensures, c .before .before .before .before .decay .ensures, c .before .before .if1 .left) (refl, refl)
+decaying c =
+    let at-test = c .before .before in
+    rw (c .amplify2 .ensures, at-test .before .before .decay .ensures, at-test .if1 .left) (refl, refl)
 
 pub step-spec : {M : Type 1} → statement M
-step-spec = tie.close (tie.spec (λ c κs. search needs) (λ c κs. search needs) (λ c κs. search needs) returns (λ c κs. search needs) returns-2)
+step-spec =
+    tie.close (tie.spec (λ c κs. search needs) (λ c κs. search needs) (λ c κs. search needs) sustained (λ c κs. search needs) decaying)

@@ -1,4 +1,4 @@
--- `hihat::square_noise::SquareNoise::render` meets its contract, by `block`'s law of a source's loop. Assumes nothing.
+-- The loop's law of `block`, over the increments of f0.
 use borrow.Author.Needs.{needs}
 use Prim.Native.Nat.{_-_}
 use native.Mathlib.Omega.{arith}
@@ -16,25 +16,13 @@ Inv-loop f0 out₀ increment noise₀ i₀ out noise i = Going (source (turn inc
 abbrev μ-loop : tie.MeasureT-loop
 μ-loop f0 out₀ increment noise₀ i₀ out noise i = length out - i
 
-loop-holds : tie.Need-loop-holds Inv-loop μ-loop
-loop-holds c = begin _ _ _ _ (omega arith)
-
-loop-less : tie.Need-loop-less Inv-loop μ-loop
-loop-less c = simp length-set (omega arith)
-
-loop-again : tie.Need-loop-again Inv-loop μ-loop
-loop-again c =
-    let l = c .before .before .before in
-    rw (c .before .step .ensures .0, c .before .step .ensures .1) (going _ _ _ _ _ _ _ (l .loop .inv) (omega (arith, l .loop .inv .long)))
-
-same-length : tie.Need-same-length Inv-loop μ-loop
-same-length c = c .before .loop .inv .long
-
-returns : tie.Need-returns Inv-loop μ-loop
-returns c = rw (← c .before .before .increments .ensures) (end-source _ _ _ _ _ _ (c .before .loop .inv) (c .loop-test .left))
+again : tie.Need-loop-again Inv-loop μ-loop
+again c =
+    let l = c .before .before .before .loop in
+    rw (c .before .step .ensures .0, c .before .step .ensures .1) (going _ _ _ _ _ _ _ (l .inv) (omega (arith, l .inv .long)))
 
 pub render-spec : {M : Type 1} → statement M
 render-spec =
-    tie.close
-    (tie.spec Inv-loop μ-loop (λ c κs. search needs) loop-holds (λ c κs. search needs) (λ c. search needs) (λ c. search needs) (λ c. search needs)
-    loop-less loop-again same-length returns)
+    tie.close (tie.spec Inv-loop μ-loop (λ c κs. search needs) (λ c. begin _ _ _ _ (omega arith)) (λ c κs. search needs) (λ c. search needs)
+    (λ c. search needs) (λ c. search needs) (λ c. simp length-set (omega arith)) again (λ c. search needs)
+    (λ c. rw (← c .before .before .increments .ensures) (end-source _ _ _ _ _ _ (c .before .loop .inv) (c .loop-test .left))))

@@ -1,22 +1,15 @@
--- What the questions of `render` show: the knobs of an accepted call lie between their bounds, so both pitches lie in the tables. Assumes nothing.
+-- The pitches that `decay` and `snappy` make lie in the tables, so neither ratio is replaced. Assumes nothing.
 use mathlib.Core.Path.{_≡_}
-use Prim.Native.Nat.{ℕ}
 use native.Mathlib.Omega.{arith}
 use lib.Ieee.{Float, binary32, neg}
 use Rattle.ieee754.specs.Single.{_⊕_, _⊖_, _⊗_, decimal}
 use Rattle.ieee754.proofs.Bounds.{mul-bound, add-bound, neg-bound, whole-bound}
 use Rattle.refusal.specs.Refusal.{KnobIn}
-use Rattle.refusal.proofs.ByNumber.{block-passed}
 use Rattle.refusal.proofs.Knobs.{unit-bound, times, decay-xt}
 use Rattle.units.specs.Units.{ratio, semitonesToRatio, unwrapOr}
 use Rattle.units.proofs.InRange.{in-range}
-use Rattle.analog_snare_drum.specs.AnalogSnareDrum.{renderRefusal}
 
-pub knobs-in : (size : ℕ) (accent f0 tone decay snappy : Float) → renderRefusal size accent f0 tone decay snappy ≡ 0 → KnobIn decay × KnobIn snappy
-unfolding renderRefusal
-knobs-in size accent f0 tone decay snappy h = let k = block-passed size f0 accent tone decay snappy _ h .1 in (k .decay-in, k .c-in)
-
--- the pitches: from 0 to 84 semitones, and from -60 to 0
+-- from 0 to 84 semitones, and from -60 to 0
 module _ (decay snappy other : Float) (d : KnobIn decay) (s : KnobIn snappy) where
   pub q-ratio : let p = decay ⊗ (decimal 1 0 ⊕ decay ⊗ (decay ⊖ decimal 1 0)) ⊗ decimal 84 0 in unwrapOr (semitonesToRatio p) other ≡ ratio p
   q-ratio = in-range 0 84 _ (omega arith) (omega arith) (times 84 (omega arith) _ (decay-xt decay (unit-bound decay d))) other

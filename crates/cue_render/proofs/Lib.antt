@@ -1,4 +1,6 @@
 -- The laws of `cue_render` beside the proofs of its functions.
+mod Fill
+mod Segment
 mod Walk
 mod AcceptedSheet
 mod Answer

@@ -24,15 +24,15 @@ use Rattle.cue_sheet.specs.Sheet.{accepted, Strike, judge, strikes}
 use Rattle.cue_sheet.specs.declared.Cue.{Cue}
 use Rattle.cue_sheet.specs.declared.Cue.the-variants.{Bass, Snare, SyntheticSnare as Synthetic, Hihat}
 use Rattle.cue_sheet.proofs.Questions.{KnobsIn, KnobsOf}
-use Rattle.kit.specs.Part.{knobsOf, bassAfter, snareAfter, syntheticSnareAfter, hihatAfter}
-use Rattle.kit.specs.Kit.{unstruck, start, afterSegment, strike}
+use Rattle.cue_render.specs.Part.{knobsOf, bassAfter, snareAfter, syntheticSnareAfter, hihatAfter}
+use Rattle.cue_render.specs.Kit.{unstruck, start, afterSegment, strike}
 use Rattle.cue_render.specs.Calls.{StartAccepted, SegmentAccepted, SegmentsAccepted}
-use Rattle.kit.specs.declared.part.Playing.{Playing}
-use Rattle.kit.specs.declared.part.BassPart.{BassPart}
-use Rattle.kit.specs.declared.part.SnarePlayed.{SnarePlayed}
-use Rattle.kit.specs.declared.part.SyntheticSnarePlayed.{SyntheticSnarePlayed}
-use Rattle.kit.specs.declared.part.HihatPlayed.{HihatPlayed}
-use Rattle.kit.specs.declared.Kit.{Kit}
+use Rattle.cue_render.specs.declared.part.Playing.{Playing}
+use Rattle.cue_render.specs.declared.part.BassPart.{BassPart}
+use Rattle.cue_render.specs.declared.part.SnarePlayed.{SnarePlayed}
+use Rattle.cue_render.specs.declared.part.SyntheticSnarePlayed.{SyntheticSnarePlayed}
+use Rattle.cue_render.specs.declared.part.HihatPlayed.{HihatPlayed}
+use Rattle.cue_render.specs.declared.kit.Kit.{Kit}
 use Rattle.cue_sheet.proofs.FirstLines.{HeadIn}
 use Rattle.cue_render.proofs.AcceptedSheet.{CuesIn, sheet-accepted}
 

@@ -13,26 +13,14 @@ use Rattle.cue_sheet.specs.Sheet.{accepted, judge, strikes, strikesOf}
 use Rattle.cue_sheet.specs.declared.Cue.{Cue}
 use Rattle.cue_sheet.proofs.Questions.{cue-passed}
 use Rattle.cue_sheet.proofs.Judging.{Judging, first-accepted, first-listed, between, line-goes-on, line-listed, none-listed}
-use Rattle.kit.specs.Kit.{start, segment, afterSegment, places}
-use Rattle.kit.specs.Kit as Kit
+use Rattle.cue_render.specs.Kit.{start, segment, afterSegment}
+use Rattle.cue_render.specs.Kit as Kit
 use Rattle.cue_render.specs.Render.{samplesFrom, samples}
-use Rattle.kit.specs.declared.Kit.{Kit as KitT}
+use Rattle.cue_render.specs.declared.kit.Kit.{Kit as KitT}
 
--- ---- a segment takes all places from one of the buffer to another, where the scratch has as many
-module _ (out scratch : List Float) (from to : ℕ) (h : from ≤ to) (within : to ≤ List.length out) (room : to - from ≤ List.length scratch) where
-  part-length : List.length (take (to - from) (drop from out)) ≡ to - from
-  part-length = length-take-le (to - from) (drop from out) (omega (arith, length-drop from out))
-
-  pub all-places : places (take (to - from) (drop from out)) scratch ≡ to - from
-  all-places = omega (arith, part-length, room)
-
-  pub whole-segment : (k : KitT)
-      → let part = take (to - from) (drop from out) in
-      segment k (places part scratch) ++ drop (places part scratch) part ≡ segment k (to - from)
-  whole-segment k =
-      let part = take (to - from) (drop from out) in
-      let none-left : drop (to - from) part ≡ [] = ap (λ (n : ℕ). drop n part) (sym part-length) ∙ drop-length part in
-      rw (all-places, none-left) (append-nil (segment k (to - from)))
+-- ---- the places from one of the buffer to another, and as many of the scratch
+pub part-length : (out : List Float) (from to : ℕ) → from ≤ to → to ≤ List.length out → List.length (take (to - from) (drop from out)) ≡ to - from
+part-length out from to h within = length-take-le (to - from) (drop from out) (omega (arith, length-drop from out))
 
 -- ---- a segment is written from a place of the buffer to another
 module _ (out seg out′ : List Float) (from to : ℕ) (h : from ≤ to) (within : to ≤ List.length out)

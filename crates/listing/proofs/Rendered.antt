@@ -13,7 +13,7 @@ use Rattle.cue_sheet.proofs.Judging.{accepted-head}
 use Rattle.cue_render.specs.Render.{samples, inBuffer, filled}
 use Rattle.cue_render.specs.Render as Render
 use Rattle.text.proofs.Digits.{pattern-length}
-use Rattle.text.proofs.Places.{decimal-length}
+use Rattle.text.proofs.DecimalPlaces.{decimal-length}
 use Rattle.refusal.specs.Refusal.{number}
 use Rattle.refusal.specs.declared.Refusal.{Refusal}
 use Rattle.refusal.proofs.Laws.{refused}

@@ -12,7 +12,7 @@ use Rattle.text.specs.Read as Read
 use Rattle.text.specs.Write as Write
 use Rattle.text.specs.declared.read.Number.{Number}
 use Rattle.text.specs.declared.read.Number.the-variants.{Value, Invalid}
-use Rattle.text.proofs.Places.{decimal-length, decimal-no-comma}
+use Rattle.text.proofs.DecimalPlaces.{decimal-length, decimal-no-comma}
 use Rattle.text.proofs.Fields.{only-field, next-field, joined, joined-fields}
 use Rattle.text.proofs.Lines.{ended-line, line-ended}
 use Rattle.text.proofs.RoundTrip.{decimal-back, decimal-read}

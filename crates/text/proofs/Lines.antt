@@ -87,11 +87,15 @@ module _ (s : List ℕ) (at next : ℕ) (ends : next ≡ at + length (lineAt at 
       let size : length (getD (lines (drop at s)) 0 []) ≡ next - at = omega arith in
       rw (← size) (first (drop at s) (omega (arith, length-drop at s)))
 
-  pub line-some : at < next
+  line-some : at < next
   line-some = omega (arith, here .some)
 
   pub line-inside : next ≤ length s
   line-inside = omega (arith, here .inside, length-drop at s)
+
+  -- less is left after a line
+  pub line-less : length s - next < length s - at
+  line-less = omega (arith, line-some, line-inside)
 
   pub line-next : lines (drop at s) ≡ take (next - at) (drop at s) ∷ lines (drop next s)
   line-next =

@@ -17,6 +17,7 @@ abbrev μ-loop : tie.MeasureT-loop
 pub judge-spec : {M : Type 1} → statement M
 judge-spec =
     tie.close
-    (tie.spec Inv-loop μ-loop (λ c κs. search needs) (λ c. search (needs, length-take-le, first-inside)) (λ c κs. search needs) (λ c. search needs) (λ c. search needs) (λ c. search first-refused) (λ c. search first-read) (λ c κs. search needs) (λ c. search needs) (λ c. search needs)
-    (λ c. search line-inside) (λ c κs. search needs) (λ c. search needs) (λ c. search line-fits) (λ c. search line-stops) (λ c. search needs) (λ c. search start-fits) (λ c. search cues-fit) (λ c. search line-less)
-    (λ c. search line-goes-on) (λ c. search all-accepted))
+    (tie.spec Inv-loop μ-loop (λ c κs. search needs) (λ c. search (needs, length-take-le, first-inside)) (λ c κs. search needs) (λ c. search needs)
+    (λ c. search needs) (λ c. search first-refused) (λ c. search first-read) (λ c κs. search needs) (λ c. search needs) (λ c. search needs)
+    (λ c. search line-inside) (λ c κs. search needs) (λ c. search needs) (λ c. search line-fits) (λ c. search line-stops) (λ c. search needs)
+    (λ c. search start-fits) (λ c. search cues-fit) (λ c. search line-less) (λ c. search line-goes-on) (λ c. search all-accepted))

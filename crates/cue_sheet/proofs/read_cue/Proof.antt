@@ -17,4 +17,5 @@ pub read-cue-spec : {M : Type 1} → statement M
 unfolding readCue
 read-cue-spec =
     tie.close
-    (tie.spec (λ c. search le-ltb) (λ c κs. search needs) (λ c. search needs) (λ c. search needs) returns-2 (λ c κs. search needs) (λ c. search needs) (λ c. search needs) (λ c κs. search line-knobs) (λ c. search line-refused) (λ c. search (line-accepted, zero-of)))
+    (tie.spec (λ c. search le-ltb) (λ c κs. search needs) (λ c. search needs) (λ c. search needs) returns-2 (λ c κs. search needs)
+    (λ c. search needs) (λ c. search needs) (λ c κs. search line-knobs) (λ c. search line-refused) (λ c. search (line-accepted, zero-of)))

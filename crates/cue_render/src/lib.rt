@@ -64,10 +64,10 @@ fn render_lines(
             }
             Line::Cue(start, cue) => {
                 let to = start as usize;
-                kit = render_segment(kit, from, to, out, scratch).strike(cue);
-                from = to;
                 least_start = start + 1;
                 count += 1;
+                kit = render_segment(kit, from, to, out, scratch).strike(cue);
+                from = to;
                 at = next;
             }
         }

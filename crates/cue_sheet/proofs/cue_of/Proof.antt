@@ -15,4 +15,5 @@ cue-of-spec =
     (λ c. let start = c .before .before .before in unit-number _ (knobs-in _ (start .pre) .a-in))
     (λ c. let start = c .before .before .before .before in unit-number _ (knobs-in _ (start .pre) .decay-in))
     (λ c. let start = c .before .before .before .before .before in unit-number _ (knobs-in _ (start .pre) .c-in)) (λ c. search needs)
-    (λ c. search needs) (λ c. search needs) (λ c. search needs) (λ c. cc) (λ c. cc) (λ c. cc) (λ c. cc))
+    (λ c. search needs) (λ c. search needs) (λ c. search needs) (λ c. rw (c .enum-told .given .1)) (λ c. rw (c .enum-told2 .given .1))
+    (λ c. rw (c .enum-told3 .given .1)) (λ c. rw (c .enum-told4 .given .1)))

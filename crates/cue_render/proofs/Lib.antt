@@ -3,5 +3,5 @@ mod Fill
 mod Segment
 mod Walk
 mod AcceptedSheet
-mod Answer
+mod SheetIntoBuffer
 mod NeverRefused

@@ -19,4 +19,6 @@ returns-3 c =
 pub render-spec : {M : Type 1} → statement M
 render-spec =
     tie.close
-    (tie.spec (λ c κs. search needs) (λ c. search needs) (λ c. search needs) (λ c. search needs) returns (λ c. search needs) (λ c κs. (search known, (search needs, search longest))) (λ c. let arm = c .before in refused-sheet _ _ (arm .before .before .judge .ensures) (arm .refusal .given .1)) (λ c. search needs) returns-3)
+    (tie.spec (λ c κs. search needs) (λ c. search needs) (λ c. search needs) (λ c. search needs) returns (λ c. search needs)
+    (λ c κs. (search known, (search needs, search longest)))
+    (λ c. let arm = c .before in refused-sheet _ _ (arm .before .before .judge .ensures) (arm .refusal .given .1)) (λ c. search needs) returns-3)

@@ -45,7 +45,7 @@ pub render-lines-spec : {M : Type 1} → statement M
 render-lines-spec =
     tie.close
     (tie.spec Inv-loop μ-loop (λ c κs. search needs) (λ c κs. search needs) (λ c. (search begin, refl, search needs)) (λ c κs. search needs)
-    (λ c. search needs) (λ c. search needs) (λ c. search line-inside) (λ c κs. search needs) (λ c. search needs) (λ c. search needs) (λ c. search needs)
-    (λ c. absurd (search never-refused)) (λ c. search needs) (λ c. search needs) (λ c. search start-fits) (λ c. search cues-fit)
-    (λ c κs. (search cue-after, search cue-within, search cue-room)) (λ c κs. search needs) loop-less loop-again (λ c κs. search last-room)
-    (λ c. search needs) (λ c. search needs) (λ c. search end))
+    (λ c. search needs) (λ c. search needs) (λ c. search line-inside) (λ c κs. search needs) (λ c. search needs) (λ c. search needs)
+    (λ c. search needs) (λ c. absurd (search never-refused)) (λ c. search needs) (λ c. search needs) (λ c. search start-fits)
+    (λ c. search cues-fit) (λ c κs. (search cue-after, search cue-within, search cue-room)) (λ c κs. search needs) loop-less loop-again
+    (λ c κs. search last-room) (λ c. search needs) (λ c. search needs) (λ c. search end))

@@ -1,4 +1,4 @@
--- `kit::Kit::start` meets its contract. Assumes nothing.
+-- All voices from init, each at the rate of the sheet; the constants are the records of zeros.
 use borrow.Author.Needs.{needs}
 use lib.Ieee.{round, ofBits}
 use Rattle.filter.specs.Svf as Svf

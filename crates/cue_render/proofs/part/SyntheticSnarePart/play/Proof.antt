@@ -1,15 +1,11 @@
--- `kit::part::SyntheticSnarePart::play` meets its contract. Assumes nothing.
-use borrow.Author.Needs.{needs}
+-- A part that is not struck stays as it is; else what it renders into the cleared scratch is added to the segment.
 use borrow.Author.Tests.{not-true, not-false}
 use mathlib.Core.Path.{refl}
 use Rattle.cue_render.specs.Part.{syntheticSnareInto, syntheticSnareAfter}
 use Rattle.cue_render.proofs.Fill.{cleared-scratch}
+use borrow.Author.Needs.{needs}
 use Rattle.cue_render.proofs.part.SyntheticSnarePart.play.Statement.{statement}
 use Rattle.cue_render.proofs.part.SyntheticSnarePart.play.Tie as tie
-
-returns : tie.Need-returns
-unfolding syntheticSnareInto syntheticSnareAfter
-returns c = rw (not-true (c .before .before .before .before .before .args .self .playing .struck) (c .if1 .taken)) (refl, refl)
 
 returns-2 : tie.Need-returns-2
 unfolding syntheticSnareInto syntheticSnareAfter
@@ -25,7 +21,9 @@ returns-2 c =
     (rw (c .held .ensures, render .ensures .1 .0, render .ensures .1 .1 .0, scratch .1, struck), rw (added .add-to .ensures, render .ensures .1 .1 .1, scratch .0, struck))
 
 pub play-spec : {M : Type 1} → statement M
+unfolding syntheticSnareInto syntheticSnareAfter
 play-spec =
     tie.close
-    (tie.spec returns (λ c κs. search needs) (λ c κs. search needs) (λ c κs. search needs) (λ c κs. search needs) (λ c. search needs)
-    (λ c. search needs) returns-2)
+    (tie.spec
+    (λ c. let start = c .before .before .before .before .before in rw (not-true (start .args .self .playing .struck) (c .if1 .taken)) (refl, refl))
+    (λ c κs. search needs) (λ c κs. search needs) (λ c κs. search needs) (λ c κs. search needs) (λ c. search needs) (λ c. search needs) returns-2)

@@ -5,7 +5,7 @@ use native.Mathlib.Numerals.{add-one}
 use native.Mathlib.Omega.{arith}
 use native.Mathlib.Decide.{decLe}
 use mathlib.Core.Path.{_≡_, refl, sym, ap, _∙_}
-use mathlib.Core.List.{List, [], _∷_, _++_}
+use mathlib.Core.List.{List, [], _∷_, _++_, append-assoc}
 use lib.ListN.{length, getD, drop, set, length-append, drop-of-length-le}
 use lib.Seq.{sets, length-sets, sets-eq, set-out, drop-cons}
 use Rattle.text.specs.Write.{Written, Whole}
@@ -42,6 +42,10 @@ then {out} {out₁} {out₂} {a} {b} {at} v w = record {
   contents = w .contents ∙ rw (v .contents, v .place, sets-append a b out at, ← length-sets out at a) (sets-from b (sets out at a) at (length a));
   place = omega (arith, v .place, w .place, same-length v, length-append a b);
 }
+
+pub then-both : {out out₁ out₂ a : List ℕ} (b c : List ℕ) {at at₁ at₂ : ℕ}
+    → Written out at a at₁ out₁ → Written out₁ at₁ (b ++ c) at₂ out₂ → Written out at ((a ++ b) ++ c) at₂ out₂
+then-both {a = a} b c v w = rw (append-assoc a b c) (then v w)
 
 -- what is written from the start of a buffer on ends in it
 pub end-within : {out text out′ : List ℕ} {end : ℕ} → Written out 0 text end out′ → end ≤ length out′

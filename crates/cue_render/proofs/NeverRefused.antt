@@ -11,7 +11,7 @@ use lib.Ieee.Order.{le-of-values}
 use lib.Ieee.Bits.{is-true}
 use borrow.Author.Tests.{le-leb}
 use Rattle.ieee754.specs.Single.{decimal}
-use Rattle.block.specs.Block.{Turn, after}
+use Rattle.block.proofs.Blocks.{after-kept}
 use Rattle.refusal.specs.Refusal.{ask, askKnobs, isSampleRate, isBlockLength, isUnit, within, unlessRefused}
 use Rattle.analog_bass_drum.specs.AnalogBassDrum as AnalogBassDrum
 use Rattle.analog_snare_drum.specs.AnalogSnareDrum as AnalogSnareDrum
@@ -50,11 +50,6 @@ abbrev Passed : Playing → Type 0
 Passed p = p .struck ≡ true → KnobsIn (p .knobs .accent) (p .knobs .f0) (p .knobs .a) (p .knobs .decay) (p .knobs .c)
 
 -- ---- the voices that store the rate keep it
-after-kept : {S A : Type 0} (step : S → Turn S) (f : S → A) → ((s : S) → f (step s .next) ≡ f s) → (n : ℕ) (s : S) → f (after step n s) ≡ f s
-unfolding after
-after-kept step f same zero s = refl
-after-kept step f same (suc n) s = after-kept step f same n (step s .next) ∙ same s
-
 module _ (v : SyntheticSnare) (noise : ℕ) (accent f0 a decay c : Float) (n : ℕ) where
   begun-rate : (trigger : Bool)
       → let b = SyntheticSnareDrum.settings (v .«sample_rate_hz») false f0 a decay c in

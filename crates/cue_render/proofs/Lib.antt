@@ -1,5 +1,7 @@
 -- The laws of `cue_render` beside the proofs of its functions.
+mod Fill
+mod Segment
 mod Walk
 mod AcceptedSheet
-mod Answer
+mod SheetIntoBuffer
 mod NeverRefused

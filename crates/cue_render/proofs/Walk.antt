@@ -2,37 +2,26 @@
 use Prim.Native.Nat.{ℕ, _+_, _-_, _≤_, _<_}
 use native.Mathlib.Omega.{arith}
 use mathlib.Core.Path.{_≡_, refl, sym, ap, _∙_}
-use mathlib.Core.List.{List, [], _++_, append-assoc, append-nil}
+use mathlib.Core.List.{List, _++_, append-assoc}
 use lib.ListN as List
 use lib.ListN.{take, drop, length-append, length-drop}
-use lib.Seq.{length-take-le, drop-length, take-at, drop-at, drop-drop}
+use lib.Seq.{length-take-le, take-at, drop-at, drop-drop}
 use lib.Ieee.{Float}
 use Rattle.text.specs.Read.{lines, lineAt}
-use Rattle.cue_sheet.specs.CueLine.{strike, readCue}
+use Rattle.cue_sheet.specs.CueLine.{answer, readCue}
 use Rattle.cue_sheet.specs.Sheet.{accepted, judge, strikes, strikesOf}
 use Rattle.cue_sheet.specs.declared.Cue.{Cue}
-use Rattle.cue_sheet.proofs.Questions.{cue-passed}
-use Rattle.cue_sheet.proofs.Judging.{Judging, first-accepted, first-listed, between, line-goes-on, line-listed, none-listed}
-use Rattle.kit.specs.Kit.{start, segment, afterSegment, places}
-use Rattle.kit.specs.Kit as Kit
+use Rattle.cue_sheet.specs.declared.Line.{Line}
+use Rattle.cue_sheet.specs.declared.Line.the-variants as Line
+use Rattle.cue_sheet.proofs.Judging.{Judging, first-accepted, first-listed, between, line-passed, line-goes-on, line-listed, none-listed}
+use Rattle.cue_render.specs.Kit.{start, segment, afterSegment}
+use Rattle.cue_render.specs.Kit as Kit
 use Rattle.cue_render.specs.Render.{samplesFrom, samples}
-use Rattle.kit.specs.declared.Kit.{Kit as KitT}
+use Rattle.cue_render.specs.declared.kit.Kit.{Kit as KitT}
 
--- ---- a segment takes all places from one of the buffer to another, where the scratch has as many
-module _ (out scratch : List Float) (from to : ℕ) (h : from ≤ to) (within : to ≤ List.length out) (room : to - from ≤ List.length scratch) where
-  part-length : List.length (take (to - from) (drop from out)) ≡ to - from
-  part-length = length-take-le (to - from) (drop from out) (omega (arith, length-drop from out))
-
-  pub all-places : places (take (to - from) (drop from out)) scratch ≡ to - from
-  all-places = omega (arith, part-length, room)
-
-  pub whole-segment : (k : KitT)
-      → let part = take (to - from) (drop from out) in
-      segment k (places part scratch) ++ drop (places part scratch) part ≡ segment k (to - from)
-  whole-segment k =
-      let part = take (to - from) (drop from out) in
-      let none-left : drop (to - from) part ≡ [] = ap (λ (n : ℕ). drop n part) (sym part-length) ∙ drop-length part in
-      rw (all-places, none-left) (append-nil (segment k (to - from)))
+-- ---- the places from one of the buffer to another, and as many of the scratch
+pub part-length : (out : List Float) (from to : ℕ) → from ≤ to → to ≤ List.length out → List.length (take (to - from) (drop from out)) ≡ to - from
+part-length out from to h within = length-take-le (to - from) (drop from out) (omega (arith, length-drop from out))
 
 -- ---- a segment is written from a place of the buffer to another
 module _ (out seg out′ : List Float) (from to : ℕ) (h : from ≤ to) (within : to ≤ List.length out)
@@ -83,40 +72,48 @@ begin sheet rate length cues out first ends h room k started = record {
 module _ {sheet : List ℕ} {rate length : ℕ} {out₀ : List Float} {kit : KitT} {from at cues leastStart : ℕ} {out : List Float}
     (w : Walking sheet rate length out₀ kit from at cues leastStart out) where
   -- the line at `at`, which ends at `next`, is a cue
-  module _ (next : ℕ) (ends : next ≡ at + List.length (lineAt at sheet)) (more : at < List.length sheet)
-      (to : ℕ) (cue : Cue) (read : readCue length cues leastStart (between at next sheet) ≡ strike to cue) where
-    pub cue-inside : (from ≤ to) × (to < length)
-    cue-inside =
-        let p = cue-passed length cues leastStart (between at next sheet) read in
-        (omega (arith, w .behind, p .least), p .inside)
+  module _ {next : ℕ} (ends : next ≡ at + List.length (lineAt at sheet)) (more : at < List.length sheet)
+      {r : Line} (read : answer r ≡ readCue length cues leastStart (between at next sheet)) {to : ℕ} {cue : Cue} (e : r ≡ Line.Cue to cue) where
+    pub cue-after : from ≤ to
+    cue-after = omega (arith, w .behind, line-passed (w .judging) ends more read e .least)
 
-    pub turn : (out′ : List Float) (kit₁ kit₂ : KitT) → out′ ≡ take from out ++ (segment kit (to - from) ++ drop to out) → List.length out′ ≡ List.length out
-        → kit₁ ≡ afterSegment kit (to - from) → kit₂ ≡ Kit.strike kit₁ cue → Walking sheet rate length out₀ kit₂ to next (cues + 1) (to + 1) out′
+    below : to < length
+    below = line-passed (w .judging) ends more read e .inside
+
+    pub cue-within : to ≤ List.length out
+    cue-within = omega (arith, below, w .room)
+
+    pub cue-room : (scratch : List Float) → length ≤ List.length scratch → to - from ≤ List.length scratch
+    cue-room scratch enough = omega (arith, below, enough)
+
+    pub turn : {out′ : List Float} {kit₁ kit₂ : KitT} → kit₁ ≡ afterSegment kit (to - from) → out′ ≡ take from out ++ (segment kit (to - from) ++ drop to out)
+        → List.length out′ ≡ List.length out → kit₂ ≡ Kit.strike kit₁ cue → Walking sheet rate length out₀ kit₂ to next (cues + 1) (to + 1) out′
     unfolding samplesFrom
-    turn out′ kit₁ kit₂ written long after struck =
-        let h = cue-inside .0 in
-        let below = cue-inside .1 in
-        let within : to ≤ List.length out = omega (arith, w .room, below) in
+    turn {out′ = out′} after written long struck =
         let seg = segment kit (to - from) in
         record {
-          judging = line-goes-on (w .judging) next ends more to cue read;
-          inside = omega arith;
+          judging = line-goes-on (w .judging) ends more read e;
+          inside = omega (arith, below);
           behind = omega arith;
           room = omega (arith, w .room, long);
           long = long ∙ w .long;
           left =
               rw (
-                front out seg out′ from to h within written long,
-                back out seg out′ from to h within written long length (omega arith),
+                front out seg out′ from to cue-after cue-within written long,
+                back out seg out′ from to cue-after cue-within written long length (omega (arith, below)),
                 append-assoc,
                 ← append-assoc seg,
                 struck,
                 after,
               )
-              (rw (line-listed (w .judging) next ends more to cue read) at (w .left));
+              (rw (line-listed (w .judging) ends more read e) at (w .left));
         }
 
-  pub end : List.length sheet ≤ at → (out′ : List Float) → out′ ≡ take from out ++ (segment kit (length - from) ++ drop length out)
+  -- the last segment goes up to the sheet's end
+  pub last-room : (scratch : List Float) → length ≤ List.length scratch → length - from ≤ List.length scratch
+  last-room scratch enough = omega (arith, enough)
+
+  pub end : List.length sheet ≤ at → {out′ : List Float} → out′ ≡ take from out ++ (segment kit (length - from) ++ drop length out)
       → out′ ≡ samples rate length (strikes sheet) ++ drop length out₀
   unfolding samplesFrom
-  end over out′ written = written ∙ (rw (none-listed (w .judging) over) at (w .left))
+  end over written = written ∙ (rw (none-listed (w .judging) over) at (w .left))

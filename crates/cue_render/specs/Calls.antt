@@ -11,12 +11,12 @@ use Rattle.analog_snare_drum.specs.AnalogSnareDrum as AnalogSnareDrum
 use Rattle.synthetic_snare_drum.specs.SyntheticSnareDrum as SyntheticSnareDrum
 use Rattle.hihat.specs.Hihat as Hihat
 use Rattle.cue_sheet.specs.Sheet.{Strike}
-use Rattle.kit.specs.Kit.{afterSegment, strike}
-use Rattle.kit.specs.declared.part.BassPart.{BassPart}
-use Rattle.kit.specs.declared.part.SnarePart.{SnarePart}
-use Rattle.kit.specs.declared.part.SyntheticSnarePart.{SyntheticSnarePart}
-use Rattle.kit.specs.declared.part.HihatPart.{HihatPart}
-use Rattle.kit.specs.declared.Kit.{Kit}
+use Rattle.cue_render.specs.Kit.{afterSegment, strike}
+use Rattle.cue_render.specs.declared.part.BassPart.{BassPart}
+use Rattle.cue_render.specs.declared.part.SnarePart.{SnarePart}
+use Rattle.cue_render.specs.declared.part.SyntheticSnarePart.{SyntheticSnarePart}
+use Rattle.cue_render.specs.declared.part.HihatPart.{HihatPart}
+use Rattle.cue_render.specs.declared.kit.Kit.{Kit}
 
 -- ---- the answer to the call of each voice, in a segment of n samples
 abbrev pub bassRefusal : BassPart → ℕ → ℕ

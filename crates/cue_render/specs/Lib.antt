@@ -1,3 +1,6 @@
 -- The definitions of `cue_render`.
+pub mod Mix
+pub mod Part
+pub mod Kit
 pub mod Render
 pub mod Calls

@@ -7,8 +7,8 @@ use lib.ListN as List
 use lib.ListN.{drop}
 use lib.Ieee.{Float}
 use Rattle.cue_sheet.specs.Sheet.{SheetAnswer, accepted, refusedAt, Strike, judge, strikes}
-use Rattle.kit.specs.Kit.{start, segment, afterSegment, strike}
-use Rattle.kit.specs.declared.Kit.{Kit}
+use Rattle.cue_render.specs.Kit.{start, segment, afterSegment, strike}
+use Rattle.cue_render.specs.declared.kit.Kit.{Kit}
 
 -- ---- the samples
 

@@ -1,15 +1,19 @@
 // A cue sheet rendered to samples: four voices from init, struck by the sheet's cues, added segment by segment.
+mod kit; // kit.rt: the four parts, and one segment of a sheet
+mod mix; // mix.rt: silence, and blocks added sample by sample
+mod part; // part.rt: a voice with what it plays
+
 ghost use mathlib.Core.Path.{_≡_};
 ghost use mathlib.Core.List.{_++_};
 ghost use Prim.Native.Nat.{_-_, _≤_};
 ghost use lib.ListN as List;
 ghost use lib.ListN.{take, drop};
 ghost use Rattle.cue_sheet.specs.Sheet as Sheet;
-ghost use Rattle.kit.specs.Kit.{segment, afterSegment};
+ghost use Rattle.cue_render.specs.Kit.{segment, afterSegment};
 ghost use Rattle.cue_render.specs.Render as spec;
+use crate::kit::Kit;
 use cue_sheet::Judgment;
 use cue_sheet::Line;
-use kit::Kit;
 use refusal::Refusal;
 
 // A sheet into the first places of a buffer. The others stay as they were, and so do all of them where the sheet is refused.
@@ -60,10 +64,10 @@ fn render_lines(
             }
             Line::Cue(start, cue) => {
                 let to = start as usize;
-                kit = render_segment(kit, from, to, out, scratch).strike(cue);
-                from = to;
                 least_start = start + 1;
                 count += 1;
+                kit = render_segment(kit, from, to, out, scratch).strike(cue);
+                from = to;
                 at = next;
             }
         }
@@ -77,5 +81,5 @@ fn render_segment(kit: Kit, from: usize, to: usize, out: &mut [f32], scratch: &m
     ensures kit { λ r. ⌜ r ≡ afterSegment kit (to - from) ⌝ }
     ensures block { λ _. ⌜ now (out .exit) ≡ take from (now (out .entry)) ++ (segment kit (to - from) ++ drop to (now (out .entry))) ⌝ }
 {
-    kit.segment(&mut out[from..to], scratch)
+    kit.play(&mut out[from..to], &mut scratch[..to - from])
 }

@@ -1,11 +1,11 @@
--- The ranges of a first line's numbers. Assumes nothing.
-use Prim.Native.Nat.{ℕ, _≤_}
+-- The numbers of a first line: asked for one after the other, and their ranges. Assumes nothing.
+use Prim.Native.Nat.{ℕ, _≤_, _<_}
 use native.Mathlib.Omega.{arith}
 use mathlib.Core.Path.{_≡_, refl}
 use mathlib.Core.Bool.{Bool, true, false, cond}
 use mathlib.Core.List.{List}
 use lib.Dec.{leb}
-use borrow.Author.Tests.{leb-true}
+use borrow.Author.Tests.{leb-true, le-leb, lt-leb}
 use Rattle.text.specs.Read.{body, field, decimal}
 use Rattle.text.specs.declared.read.Number.{Number}
 use Rattle.text.specs.declared.read.Number.the-variants as Number
@@ -13,6 +13,15 @@ use Rattle.text.proofs.RoundTrip.{decimal-read}
 use Rattle.cue_sheet.specs.CueLine.{hasFields}
 use Rattle.cue_sheet.specs.Sheet.{headOf, readFirstLine}
 use Rattle.cue_sheet.specs.declared.FirstLine.the-variants.{Head, Invalid}
+
+module _ {x y : Number} {rate length : ℕ} (hx : x ≡ Number.Value rate) (hy : y ≡ Number.Value length) where
+  pub rate-low : rate < 16000 → Invalid ≡ headOf x y
+  unfolding headOf
+  rate-low h = rw (hx, hy, lt-leb 16000 rate h)
+
+  pub head-read : 16000 ≤ rate → Head rate length ≡ headOf x y
+  unfolding headOf
+  head-read h = rw (hx, hy, le-leb 16000 rate h)
 
 pub record HeadIn (rate length : ℕ) : Type 0 where
   pub lowest : 16000 ≤ rate

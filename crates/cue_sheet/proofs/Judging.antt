@@ -7,20 +7,27 @@ use mathlib.Core.List.{List, [], _∷_}
 use lib.ListN as List
 use lib.ListN.{take, drop}
 use lib.Seq.{take-nil, drop-nil}
+use mir.Syntax.{w32}
+use mir.Val.{Fits}
+use Rattle.refusal.specs.Refusal.{number}
+use Rattle.refusal.specs.declared.Refusal.{Refusal}
 use Rattle.text.specs.Read.{lines, lineAt, ended}
 use Rattle.text.proofs.Lines.{line-inside, line-next, lines-over}
-use Rattle.cue_sheet.specs.CueLine.{LineAnswer, strike, refused, hasFields, readCue}
+use Rattle.cue_sheet.specs.CueLine.{LineAnswer, strike, refused, answer, hasFields, readCue}
 use Rattle.cue_sheet.specs.Sheet.{SheetAnswer, accepted, refusedAt, readFirstLine, onLine, judgeLines, onFirst, judgeAll, judge, strikesOf, strikes}
 use Rattle.cue_sheet.specs.declared.Cue.{Cue}
 use Rattle.cue_sheet.specs.declared.FirstLine.{FirstLine}
 use Rattle.cue_sheet.specs.declared.FirstLine.the-variants.{Head, Invalid}
 use Rattle.cue_sheet.proofs.FirstLines.{HeadIn, head-in}
-use Rattle.cue_sheet.proofs.Questions.{cue-passed}
+use Rattle.cue_sheet.specs.declared.Line.{Line}
+use Rattle.cue_sheet.specs.declared.Line.the-variants as Line
+use Rattle.cue_sheet.proofs.Questions.{Passed, cue-passed}
 
 -- the judgment is that of the lines from place at on, after `cues` cues; the next start is at least `leastStart`
 pub record Judging (sheet : List ℕ) (rate length at cues leastStart : ℕ) : Type 0 where
   pub inside : at ≤ List.length sheet
   pub few : cues ≤ 64
+  pub short : length ≤ 16384
   pub left : judge sheet ≡ judgeLines rate length cues leastStart (lines (drop at sheet))
 
 pub not-accepted : {C : Type 0} {n line rate length cues : ℕ} → refusedAt n line ≡ accepted rate length cues → C
@@ -64,13 +71,18 @@ judged [] first ends = empty-judged first
 judged (x ∷ xs) first ends = rw (line-next (x ∷ xs) 0 first ends (omega arith), sub-zero first)
 
 module _ (sheet : List ℕ) (first : ℕ) (ends : first ≡ 0 + List.length (lineAt 0 sheet)) where
-  pub first-refused : readFirstLine (take first sheet) ≡ Invalid → refusedAt 7 1 ≡ judge sheet
+  pub first-refused : {x : FirstLine} → x ≡ readFirstLine (take first sheet) → x ≡ Invalid → refusedAt 7 1 ≡ judge sheet
   unfolding from-first onFirst
-  first-refused h = sym (judged sheet first ends ∙ rw h)
+  first-refused read h = sym (judged sheet first ends ∙ rw (sym read ∙ h))
 
-  pub first-read : (rate length : ℕ) → readFirstLine (take first sheet) ≡ Head rate length → Judging sheet rate length first 0 0
+  pub first-read : {x : FirstLine} {rate length : ℕ} → x ≡ readFirstLine (take first sheet) → x ≡ Head rate length → Judging sheet rate length first 0 0
   unfolding from-first onFirst
-  first-read rate length h = record { inside = first-inside sheet first ends; few = omega arith; left = judged sheet first ends ∙ rw h }
+  first-read read h = record {
+    inside = first-inside sheet first ends;
+    few = omega arith;
+    short = head-in (take first sheet) (sym read ∙ h) .longest;
+    left = judged sheet first ends ∙ rw (sym read ∙ h);
+  }
 
   -- the first line of an accepted sheet need not be read again
   head-accepted : (rate length cues : ℕ) → judge sheet ≡ accepted rate length cues → readFirstLine (take first sheet) ≡ Head rate length
@@ -78,12 +90,12 @@ module _ (sheet : List ℕ) (first : ℕ) (ends : first ≡ 0 + List.length (lin
     where
       go : (x : FirstLine) → readFirstLine (take first sheet) ≡ x → x ≡ Head rate length
       go (Head r l) e =
-          let same = same-head r l 0 0 (lines (drop first sheet)) (sym (first-read r l e .left) ∙ h) in
+          let same = same-head r l 0 0 (lines (drop first sheet)) (sym (first-read refl e .left) ∙ h) in
           rw (same .0, same .1)
-      go Invalid e = not-accepted (first-refused e ∙ h)
+      go Invalid e = not-accepted (first-refused refl e ∙ h)
 
   pub first-accepted : (rate length cues : ℕ) → judge sheet ≡ accepted rate length cues → Judging sheet rate length first 0 0
-  first-accepted rate length cues h = first-read rate length (head-accepted rate length cues h)
+  first-accepted rate length cues h = first-read refl (head-accepted rate length cues h)
 
   -- the cues of a sheet are those of the lines after it
   pub first-listed : strikes sheet ≡ strikesOf (lines (drop first sheet))
@@ -98,32 +110,47 @@ module _ (sheet : List ℕ) (first : ℕ) (ends : first ≡ 0 + List.length (lin
 pub accepted-head : (sheet : List ℕ) {rate length cues : ℕ} → judge sheet ≡ accepted rate length cues → HeadIn rate length
 accepted-head sheet {rate} {length} {cues} h = head-in _ (head-accepted sheet (0 + List.length (lineAt 0 sheet)) refl rate length cues h)
 
+-- what is counted while a sheet is walked fits 32 bits
+module _ {sheet : List ℕ} {rate length at cues leastStart : ℕ} (g : Judging sheet rate length at cues leastStart) where
+  pub cues-fit : Fits w32 (cues + 1)
+  cues-fit = record { fits = omega (arith, g .few) }
+
+  pub line-fits : Fits w32 (cues + 2)
+  line-fits = record { fits = omega (arith, g .few) }
+
 -- ---- one line after the other: that at `at` ends at `next`
 abbrev pub between : ℕ → ℕ → List ℕ → List ℕ
 between at next sheet = take (next - at) (drop at sheet)
 
 module _ {sheet : List ℕ} {rate length at cues leastStart : ℕ} (g : Judging sheet rate length at cues leastStart)
-    (next : ℕ) (ends : next ≡ at + List.length (lineAt at sheet)) (more : at < List.length sheet) where
-  pub line-stops : (n : ℕ) → readCue length cues leastStart (between at next sheet) ≡ refused n → refusedAt n (cues + 2) ≡ judge sheet
+    {next : ℕ} (ends : next ≡ at + List.length (lineAt at sheet)) (more : at < List.length sheet)
+    {r : Line} (read : answer r ≡ readCue length cues leastStart (between at next sheet)) where
+  pub line-stops : {q : Refusal} → r ≡ Line.Refused q → refusedAt (number q) (cues + 2) ≡ judge sheet
   unfolding judgeLines onLine
-  line-stops n h = sym (g .left ∙ rw (line-next sheet at next ends more, h))
-
-  pub line-goes-on : (start : ℕ) (cue : Cue) → readCue length cues leastStart (between at next sheet) ≡ strike start cue
-      → Judging sheet rate length next (cues + 1) (start + 1)
-  unfolding judgeLines onLine
-  line-goes-on start cue h = record {
-    inside = line-inside sheet at next ends more;
-    few = omega (arith, cue-passed length cues leastStart (between at next sheet) h .few);
-    left = g .left ∙ rw (line-next sheet at next ends more, h);
-  }
+  line-stops e = sym (g .left ∙ rw (line-next sheet at next ends more, ← read, e))
 
   -- no line of an accepted sheet is refused
-  pub never-refused : (total n : ℕ) → judge sheet ≡ accepted rate length total → readCue length cues leastStart (between at next sheet) ≡ refused n → ⊥
-  never-refused total n h e = not-accepted (line-stops n e ∙ h)
+  pub never-refused : {total : ℕ} {q : Refusal} → judge sheet ≡ accepted rate length total → r ≡ Line.Refused q → ⊥
+  never-refused h e = not-accepted (line-stops e ∙ h)
 
-  pub line-listed : (start : ℕ) (cue : Cue) → readCue length cues leastStart (between at next sheet) ≡ strike start cue
-      → strikesOf (lines (drop at sheet)) ≡ record { start = start; cue = cue } ∷ strikesOf (lines (drop next sheet))
-  line-listed start cue h = rw (line-next sheet at next ends more) (cue-passed length cues leastStart (between at next sheet) h .listed (lines (drop next sheet)))
+  module _ {start : ℕ} {cue : Cue} (e : r ≡ Line.Cue start cue) where
+    pub line-passed : Passed length cues leastStart (between at next sheet) start cue
+    line-passed = cue-passed length cues leastStart (between at next sheet) (sym (rw e at read))
+
+    pub start-fits : Fits w32 (start + 1)
+    start-fits = record { fits = omega (arith, line-passed .inside, g .short) }
+
+    pub line-goes-on : Judging sheet rate length next (cues + 1) (start + 1)
+    unfolding judgeLines onLine
+    line-goes-on = record {
+      inside = line-inside sheet at next ends more;
+      few = omega (arith, line-passed .few);
+      short = g .short;
+      left = g .left ∙ rw (line-next sheet at next ends more, ← read, e);
+    }
+
+    pub line-listed : strikesOf (lines (drop at sheet)) ≡ record { start = start; cue = cue } ∷ strikesOf (lines (drop next sheet))
+    line-listed = rw (line-next sheet at next ends more) (line-passed .listed (lines (drop next sheet)))
 
 -- ---- the end
 module _ {sheet : List ℕ} {rate length at cues leastStart : ℕ} (g : Judging sheet rate length at cues leastStart) (over : List.length sheet ≤ at) where

@@ -16,9 +16,15 @@ unfolding isUnit within le round
 nan-unit = refl
 
 -- so a pattern that passes one is that of a number
-pub passed-number : (q : Float → Bool) → q nan ≡ false → (bits : ℕ) → q (ofBits binary32 bits) ≡ true → T (not (nanBits binary32 bits))
+passed-number : (q : Float → Bool) → q nan ≡ false → (bits : ℕ) → q (ofBits binary32 bits) ≡ true → T (not (nanBits binary32 bits))
 passed-number q none bits h = go (nanBits binary32 bits) refl
   where
     go : (t : Bool) → nanBits binary32 bits ≡ t → T (not t)
     go false e = tt
     go true e = absurd (false≢true (sym none ∙ rw (nan-of bits e) at h))
+
+pub unit-number : (bits : ℕ) → isUnit (ofBits binary32 bits) ≡ true → T (not (nanBits binary32 bits))
+unit-number = passed-number isUnit nan-unit
+
+pub frequency-number : (bits : ℕ) → isFrequency (ofBits binary32 bits) ≡ true → T (not (nanBits binary32 bits))
+frequency-number = passed-number isFrequency nan-frequency

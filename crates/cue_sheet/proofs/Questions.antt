@@ -9,8 +9,8 @@ use borrow.Author.Tests.{lt-ltb, ltb-true, leb-true}
 use Rattle.refusal.specs.Refusal.{number, answerNumber}
 use Rattle.refusal.specs.declared.Refusal.{Refusal}
 use Rattle.refusal.specs.declared.Answer.{Answer}
-use Rattle.refusal.specs.declared.Answer.the-variants.{Refused}
-use Rattle.refusal.proofs.ByNumber.{passed, knobs-passed, arm-refused}
+use Rattle.refusal.specs.declared.Answer.the-variants.{Accepted, Refused}
+use Rattle.refusal.proofs.ByNumber.{passed, knobs-passed, zero-of, arm-refused}
 pub use Rattle.refusal.proofs.ByNumber.{KnobsIn}
 use Rattle.cue_sheet.specs.CueLine.{strike, refused, answered, float, cueOf, knobsRefusal, fieldsRefusal, readFields, onFields, readCue}
 use Rattle.cue_sheet.specs.Sheet.{onCue, strikesOf}
@@ -42,19 +42,19 @@ cue-knobs Voice.SyntheticSnare k h = knobs-in k h
 cue-knobs Voice.Hihat k h = knobs-in k h
 
 -- ---- a line by what the code finds out about it
-module _ (length cues leastStart : ℕ) (line : List ℕ) (f : CueFields) (few : cues < 64) (fields : readFields line ≡ Read f) where
+module _ (length cues leastStart : ℕ) (line : List ℕ) {x : Fields} (f : CueFields) (few : cues < 64) (fields : x ≡ readFields line) (known : x ≡ Read f) where
   asked-all : readCue length cues leastStart line ≡ answered f (fieldsRefusal length leastStart f)
   unfolding readCue onFields
-  asked-all = rw (lt-ltb cues 64 few, fields)
+  asked-all = rw (lt-ltb cues 64 few, sym fields ∙ known)
 
-  pub line-refused : (a : Answer) (r : Refusal) → answerNumber a ≡ fieldsRefusal length leastStart f → a ≡ Refused r
+  pub line-refused : {a : Answer} {r : Refusal} → answerNumber a ≡ fieldsRefusal length leastStart f → a ≡ Refused r
       → refused (number r) ≡ readCue length cues leastStart line
-  line-refused a r known e =
+  line-refused {a} {r} known e =
       let n : number r ≡ fieldsRefusal length leastStart f = sym (ap answerNumber e) ∙ known in
       sym (asked-all ∙ arm-refused _ _ a _ known r e ∙ ap refused (sym n))
 
-  pub line-accepted : fieldsRefusal length leastStart f ≡ 0 → strike (f .start) (cueOf (f .voice) (f .patterns)) ≡ readCue length cues leastStart line
-  line-accepted h = sym (asked-all ∙ ap (answered f) h)
+  pub line-accepted : {cue : Cue} → cue ≡ cueOf (f .voice) (f .patterns) → fieldsRefusal length leastStart f ≡ 0 → strike (f .start) cue ≡ readCue length cues leastStart line
+  line-accepted made h = sym (asked-all ∙ rw (h, made))
 
 fields-passed : (length leastStart : ℕ) (f : CueFields) → fieldsRefusal length leastStart f ≡ 0
     → (f .start < length) × (leastStart ≤ f .start) × (knobsRefusal (f .patterns) ≡ 0)
@@ -64,8 +64,8 @@ fields-passed length leastStart f h =
     let rising = passed (leb leastStart (f .start)) 9 _ (omega arith) (below .1) in
     (ltb-true (f .start) length (below .0), leb-true leastStart (f .start) (rising .0), rising .1)
 
-pub line-knobs : (length leastStart : ℕ) (f : CueFields) → fieldsRefusal length leastStart f ≡ 0 → knobsRefusal (f .patterns) ≡ 0
-line-knobs length leastStart f h = fields-passed length leastStart f h .2
+pub line-knobs : (length leastStart : ℕ) (f : CueFields) {a : Answer} → answerNumber a ≡ fieldsRefusal length leastStart f → a ≡ Accepted → knobsRefusal (f .patterns) ≡ 0
+line-knobs length leastStart f known e = fields-passed length leastStart f (zero-of _ _ known e) .2
 
 -- ---- a line that stands for a cue has passed every question
 pub record Passed (length cues leastStart : ℕ) (line : List ℕ) (start : ℕ) (cue : Cue) : Type 0 where

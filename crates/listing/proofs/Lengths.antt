@@ -8,7 +8,7 @@ use lib.ListN.{length, length-append}
 use lib.Ieee.{binary32, toBits}
 use Rattle.random.specs.Random.{getWord, getFloat}
 use Rattle.text.proofs.Digits.{pattern-length}
-use Rattle.text.proofs.Places.{decimal-length}
+use Rattle.text.proofs.DecimalPlaces.{decimal-length}
 use Rattle.listing.specs.Draws.{readRequest, row, rows, answer, text}
 use Rattle.listing.specs.Refused as Refusal
 use Rattle.listing.specs.declared.Request.{Request}

@@ -1,4 +1,5 @@
 -- The laws of `listing` beside the proofs of its functions.
 mod Lengths
-mod Rendered
+mod Rows
+mod SheetListing
 mod Requests

@@ -4,15 +4,16 @@ use Prim.Native.Nat.{ℕ, _≤_, _<_}
 use native.Mathlib.Omega.{arith}
 use native.Mathlib.Decide.{decLe}
 use mathlib.Core.Path.{_≡_, refl, sym, ap, _∙_}
-use mathlib.Core.Bool.{Bool, true, false, cond}
+use mathlib.Core.Bool.{Bool, true, false, not, cond}
 use mathlib.Core.List.{List, [], _∷_, _++_}
 use lib.ListN.{length, getD, take, length-append}
+use borrow.Author.Tests.{not-true, not-false}
 use lib.Seq.{take-all, length-take-le, append-snoc}
 use Rattle.text.specs.Read as Read
 use Rattle.text.specs.Write as Write
 use Rattle.text.specs.declared.read.Number.{Number}
 use Rattle.text.specs.declared.read.Number.the-variants.{Value, Invalid}
-use Rattle.text.proofs.Places.{decimal-length, decimal-no-comma}
+use Rattle.text.proofs.DecimalPlaces.{decimal-length, decimal-no-comma}
 use Rattle.text.proofs.Fields.{only-field, next-field, joined, joined-fields}
 use Rattle.text.proofs.Lines.{ended-line, line-ended}
 use Rattle.text.proofs.RoundTrip.{decimal-back, decimal-read}
@@ -20,19 +21,49 @@ use Rattle.listing.specs.Draws.{onNumber, readNumbers, fromFields, readR
 use Rattle.listing.specs.declared.Request.{Request}
 use Rattle.listing.specs.declared.Request.the-variants.{Draws, Refused}
 
-pub two-fields : (fs : List (List ℕ)) → length fs ≡ 2 → fromFields fs ≡ readNumbers (getD fs 0 []) (getD fs 1 [])
+two-fields : (fs : List (List ℕ)) → length fs ≡ 2 → fromFields fs ≡ readNumbers (getD fs 0 []) (getD fs 1 [])
 unfolding fromFields
 two-fields [] h = absurd (omega arith)
 two-fields (f ∷ []) h = absurd (omega arith)
 two-fields (f ∷ g ∷ []) h = refl
 two-fields (f ∷ g ∷ e ∷ fs) h = absurd (omega arith)
 
-pub other-fields : (fs : List (List ℕ)) → (length fs ≡ 2 → ⊥) → fromFields fs ≡ Refused
+other-fields : (fs : List (List ℕ)) → (length fs ≡ 2 → ⊥) → fromFields fs ≡ Refused
 unfolding fromFields
 other-fields [] h = refl
 other-fields (f ∷ []) h = refl
 other-fields (f ∷ g ∷ []) h = absurd (h refl)
 other-fields (f ∷ g ∷ e ∷ fs) h = refl
+
+-- ---- the two numbers, asked for one after the other
+module _ (f g : List ℕ) {x : Number} (first : x ≡ Read.decimal 4294967295 f) where
+  pub no-state : x ≡ Invalid → Refused ≡ readNumbers f g
+  unfolding readNumbers onNumber
+  no-state h = rw (sym first ∙ h)
+
+  module _ {s : ℕ} (h : x ≡ Value s) {y : Number} (second : y ≡ Read.decimal 1000 g) where
+    pub no-count : y ≡ Invalid → Refused ≡ readNumbers f g
+    unfolding readNumbers onNumber
+    no-count k = rw (sym first ∙ h, sym second ∙ k)
+
+    pub both-read : {n : ℕ} → y ≡ Value n → Draws s n ≡ readNumbers f g
+    unfolding readNumbers onNumber
+    both-read k = rw (sym first ∙ h, sym second ∙ k)
+
+-- ---- an input by what the code finds out about it
+module _ (input : List ℕ) {is : Bool} (asked : is ≡ Read.ended input) where
+  pub not-ended : not is ≡ true → Refused ≡ readRequest input
+  unfolding readRequest
+  not-ended h = rw (← asked, not-true is h)
+
+  module _ (h : not is ≡ false) {line : List ℕ} (body : line ≡ Read.body input) {n : ℕ} (counted : n ≡ length (Read.fields line)) where
+    pub other-count : (n ≡ 2 → ⊥) → Refused ≡ readRequest input
+    unfolding readRequest
+    other-count none = rw (← asked, not-false is h, ← body) (sym (other-fields _ λ two. none (counted ∙ two)))
+
+    pub two-read : n ≡ 2 → {f g : List ℕ} → f ≡ Read.field 0 line → g ≡ Read.field 1 line → {q : Request} → q ≡ readNumbers f g → q ≡ readRequest input
+    unfolding readRequest Read.field
+    two-read two first second read = rw (← asked, not-false is h, ← body) (read ∙ rw (first, second) (sym (two-fields _ (sym counted ∙ two))))
 
 -- ---- the text of a state and a count asks for them
 pub read-asked : {input : List ℕ} {state count : ℕ} → AsksFor input state count → readRequest input ≡ Draws state count

@@ -1,6 +1,6 @@
 -- The digits of a number: how many there are, and a loop that stores them from the last one on. Assumes nothing.
 use Prim.Native.Nat.{ℕ, zero, suc, _+_, _-_, _/_, _%_, _^_, _≤_, _<_}
-use native.Mathlib.Nat.{pow-zero, pow-succ', div-one, div-div-eq-div-mul, not-suc-le-zero}
+use native.Mathlib.Nat.{pow-zero, pow-succ', div-one, div-div-eq-div-mul, mod-lt, not-suc-le-zero}
 use native.Mathlib.Numerals.{sub-one}
 use native.Mathlib.Omega.{arith}
 use mathlib.Core.Path.{_≡_, refl, ap}
@@ -11,7 +11,7 @@ use lib.ListN.{length, take, drop, set, length-set, drop-of-length-le}
 use lib.Seq.{length-take-le, append-snoc, take-set-lt, drop-cons, lt-length-set, getD-set-same, drop-set-lt}
 use borrow.Author.Tests.{ne-eqb}
 use Rattle.text.specs.Read.{indexOf}
-use Rattle.text.specs.Write.{digit, digits, pattern}
+use Rattle.text.specs.Write.{digit, digits, pattern, Written}
 
 pub digits-length : (base k n : ℕ) → length (digits base k n) ≡ k
 unfolding digits
@@ -41,10 +41,9 @@ begin base k n text room =
     record { inside = omega arith; room = room; done = rw (drop-of-length-le (take k text) {i = k} over, append-nil) }
 
 pub turn : {base k n : ℕ} {text : List ℕ} {i rest : ℕ} → Gathering base k n text i rest → 0 < i
-    → Gathering base k n (set text (i - 1) (digit (rest % base))) (i - 1) (rest / base)
-turn {i = zero} g h = absurd (not-suc-le-zero h)
-turn {base = base} {k = k} {text = text} {i = suc i} {rest = rest} g h =
-    let d = digit (rest % base) in
+    → {d : ℕ} → d ≡ digit (rest % base) → Gathering base k n (set text (i - 1) d) (i - 1) (rest / base)
+turn {i = zero} g h e = absurd (not-suc-le-zero h)
+turn {base = base} {k = k} {text = text} {i = suc i} {rest = rest} g h {d} e =
     let kept = take k text in
     let below : i < length kept = omega (arith, length-take-le k text (g .room), g .inside) in
     let from-i = drop-cons (set kept i d) i 0 (lt-length-set kept i d below) in
@@ -53,12 +52,17 @@ turn {base = base} {k = k} {text = text} {i = suc i} {rest = rest} g h =
     rw (sub-one (suc i)) record {
       inside = omega (arith, g .inside);
       room = simp length-set (g .room);
-      done = rw (stored, ← append-snoc (digits base i (rest / base)) d (drop (suc i) kept), ← last-digit base i rest) (g .done);
+      done = rw (stored, ← append-snoc (digits base i (rest / base)) d (drop (suc i) kept), e, ← last-digit base i rest) (g .done);
     }
 
-pub end : {base k n : ℕ} {text : List ℕ} {rest : ℕ} → Gathering base k n text 0 rest → take k text ≡ digits base k n
+pub end : {base k n : ℕ} {text out out′ : List ℕ} {i rest at at′ : ℕ}
+    → Gathering base k n text i rest → i ≤ 0 → Written out at (take k text) at′ out′ → Written out at (digits base k n) at′ out′
 unfolding digits
-end g = g .done
+end {i = zero} g h w = rw (g .done) at w
+end {i = suc i} g h w = absurd (not-suc-le-zero h)
+
+pub digit-below : (base n : ℕ) → 0 < base → base ≤ 16 → n % base < 16
+digit-below base n some few = omega (arith, mod-lt n some)
 
 -- a digit is no comma
 digit-least : (d : ℕ) → 48 ≤ digit d

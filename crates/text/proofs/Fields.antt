@@ -11,33 +11,18 @@ use lib.ListN.{length, getD, take, drop, length-drop}
 use lib.Seq.{take-all}
 use borrow.Author.Tests.{eqb-true}
 use Rattle.text.specs.Read.{indexOf, attach, fields, field}
-use Rattle.text.proofs.Find.{found-inside, found-offset, found-below, found-none, found-after}
+use Rattle.text.proofs.Find.{first-part, only-part, found-inside, found-offset, found-below, found-none, found-after}
 
 -- ---- the first comma of a line cuts it: the field before it, and the fields of what follows
 first-field : (l : List ℕ) → indexOf 44 l < length l → fields l ≡ take (indexOf 44 l) l ∷ fields (drop (suc (indexOf 44 l)) l)
-unfolding indexOf fields attach
-first-field [] h = absurd (not-suc-le-zero h)
-first-field (x ∷ xs) h = go (eqb x 44) (first-field xs) h
-  where
-    rest : ℕ → List (List ℕ)
-    rest i = take i (x ∷ xs) ∷ fields (drop (suc i) (x ∷ xs))
-
-    go : (t : Bool) → (indexOf 44 xs < length xs → fields xs ≡ take (indexOf 44 xs) xs ∷ fields (drop (suc (indexOf 44 xs)) xs))
-        → cond t 0 (suc (indexOf 44 xs)) < suc (length xs)
-        → cond t ([] ∷ fields xs) (attach x (fields xs)) ≡ rest (cond t 0 (suc (indexOf 44 xs)))
-    go true ih k = refl
-    go false ih k = ap (attach x) (ih (omega arith))
+unfolding fields attach
+first-field = first-part 44 fields (λ i. i) (λ i. refl) (λ x xs. refl) (λ x. refl)
 
 -- a line with no comma is its one field
 pub only-field : (l : List ℕ) → length l ≤ indexOf 44 l → fields l ≡ l ∷ []
-unfolding indexOf fields attach
+unfolding fields attach
 only-field [] h = refl
-only-field (x ∷ xs) h = go (eqb x 44) (only-field xs) h
-  where
-    go : (t : Bool) → (length xs ≤ indexOf 44 xs → fields xs ≡ xs ∷ []) → suc (length xs) ≤ cond t 0 (suc (indexOf 44 xs))
-        → cond t ([] ∷ fields xs) (attach x (fields xs)) ≡ (x ∷ xs) ∷ []
-    go true ih k = absurd (not-suc-le-zero k)
-    go false ih k = ap (attach x) (ih (omega arith))
+only-field (x ∷ xs) h = only-part 44 fields (λ i. i) (λ i. refl) (λ x xs. refl) (λ x. refl) (x ∷ xs) (omega arith) h
 
 -- the same in the terms of a loop: at is where a field begins, e the comma found, or the line's end
 module _ (line : List ℕ) (at e : ℕ) (inside : at ≤ length line) (found : e ≡ at + indexOf 44 (drop at line)) where
@@ -55,7 +40,7 @@ pub record Counting (line : List ℕ) (n at : ℕ) : Type 0 where
   pub sum : length (fields line) + 1 ≡ n + length (fields (drop at line))
 
 module _ {line : List ℕ} {n at e : ℕ} (g : Counting line n at) (found : e ≡ at + indexOf 44 (drop at line)) where
-  pub count-inside : e ≤ length line
+  count-inside : e ≤ length line
   count-inside = found-inside line at e 44 (g .inside) found
 
   pub count-turn : (e ≡ length line → ⊥) → Counting line (n + 1) (e + 1)
@@ -79,7 +64,7 @@ unfolding field
 seek-begin line k = record { inside = omega arith; passed = omega arith; left = rw sub-zero }
 
 module _ {line : List ℕ} {k at j e : ℕ} (g : Seeking line k at j) (found : e ≡ at + indexOf 44 (drop at line)) where
-  pub seek-inside : e ≤ length line
+  seek-inside : e ≤ length line
   seek-inside = found-inside line at e 44 (g .inside) found
 
   pub seek-turn : j < k → (e ≡ length line → ⊥) → Seeking line k (e + 1) (j + 1)

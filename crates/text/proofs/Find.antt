@@ -1,15 +1,16 @@
--- The search for a byte, and what its answer says of the text. Assumes nothing.
+-- The search for a byte, what its answer says of the text, and the parts that each such byte cuts a text into. Assumes nothing.
 use Prim.Native.Nat.{ℕ, suc, _+_, _-_, _≤_, _<_}
+use native.Mathlib.Nat.{le-of-suc-le-suc, not-suc-le-zero}
 use native.Mathlib.Numerals.{add-one}
 use native.Mathlib.Omega.{arith}
-use mathlib.Core.Path.{_≡_, sym, ap, _∙_}
+use mathlib.Core.Path.{_≡_, refl, sym, ap, _∙_}
 use mathlib.Core.Bool.{Bool, true, false, cond}
 use mathlib.Core.List.{List, [], _∷_}
 use lib.Dec.{eqb}
-use lib.ListN.{length, getD, drop, drop-of-length-le, length-drop}
+use lib.ListN.{length, getD, take, drop, drop-of-length-le, length-drop}
 use lib.Seq.{drop-cons, drop-drop}
 use borrow.Author.Tests.{eq-eqb, ne-eqb}
-use Rattle.text.specs.Read.{indexOf}
+use Rattle.text.specs.Read.{indexOf, attach}
 
 -- ---- the search at place i: it is over, or b stands there, or it goes on
 module _ (s : List ℕ) (i b : ℕ) where
@@ -52,3 +53,32 @@ module _ (s : List ℕ) (at e b : ℕ) (inside : at ≤ length s) (found : e ≡
   found-after =
       let next : at + suc (indexOf b (drop at s)) ≡ e + 1 = omega arith in
       drop-drop (suc (indexOf b (drop at s))) at s ∙ ap (λ (k : ℕ). drop k s) next
+
+-- ---- a text cut into parts at each b: `size i` bytes of the part are taken where b stands at place i, b itself or not
+module _ (b : ℕ) (parts : List ℕ → List (List ℕ)) (size : ℕ → ℕ) (grows : (i : ℕ) → size (suc i) ≡ suc (size i))
+    (cuts : (x : ℕ) (xs : List ℕ) → parts (x ∷ xs) ≡ cond (eqb x b) (take (size 0) (x ∷ xs) ∷ parts xs) (attach x (parts xs)))
+    (last : (x : ℕ) → attach x (parts []) ≡ (x ∷ []) ∷ []) where
+  pub first-part : (l : List ℕ) → indexOf b l < length l → parts l ≡ take (size (indexOf b l)) l ∷ parts (drop (suc (indexOf b l)) l)
+  unfolding indexOf attach
+  first-part [] h = absurd (not-suc-le-zero h)
+  first-part (x ∷ xs) h = cuts x xs ∙ go (eqb x b) (first-part xs) h
+    where
+      rest : ℕ → List (List ℕ)
+      rest i = take (size i) (x ∷ xs) ∷ parts (drop (suc i) (x ∷ xs))
+
+      go : (t : Bool) → (indexOf b xs < length xs → parts xs ≡ take (size (indexOf b xs)) xs ∷ parts (drop (suc (indexOf b xs)) xs))
+          → cond t 0 (suc (indexOf b xs)) < suc (length xs)
+          → cond t (take (size 0) (x ∷ xs) ∷ parts xs) (attach x (parts xs)) ≡ rest (cond t 0 (suc (indexOf b xs)))
+      go true ih k = refl
+      go false ih k = rw grows (ap (attach x) (ih (omega arith)))
+
+  pub only-part : (l : List ℕ) → 0 < length l → length l ≤ indexOf b l → parts l ≡ l ∷ []
+  unfolding indexOf attach
+  only-part [] some h = absurd (not-suc-le-zero some)
+  only-part (x ∷ xs) some h = cuts x xs ∙ go (eqb x b) xs (only-part xs) h
+    where
+      go : (t : Bool) (xs : List ℕ) → (0 < length xs → length xs ≤ indexOf b xs → parts xs ≡ xs ∷ []) → suc (length xs) ≤ cond t 0 (suc (indexOf b xs))
+          → cond t (take (size 0) (x ∷ xs) ∷ parts xs) (attach x (parts xs)) ≡ (x ∷ xs) ∷ []
+      go true xs ih k = absurd (not-suc-le-zero k)
+      go false [] ih k = last x
+      go false (y ∷ ys) ih k = ap (attach x) (ih (omega arith) (le-of-suc-le-suc k))

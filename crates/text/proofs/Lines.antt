@@ -1,17 +1,15 @@
 -- The lines of a text, each with its end (10): cut at the first end, and walked one after the other. Assumes nothing.
 use Prim.Native.Nat.{ℕ, suc, _+_, _-_, _≤_, _<_}
-use native.Mathlib.Nat.{le-of-suc-le-suc, not-suc-le-zero}
 use native.Mathlib.Omega.{arith}
 use native.Mathlib.Decide.{decLt}
 use mathlib.Core.Path.{_≡_, refl, sym, ap, _∙_}
-use mathlib.Core.Bool.{Bool, true, false, cond, false≢true}
+use mathlib.Core.Bool.{true, false≢true}
 use mathlib.Core.List.{List, [], _∷_, _++_}
-use lib.Dec.{eqb}
 use lib.ListN.{length, getD, take, drop, drop-of-length-le, length-append, length-drop}
 use lib.Seq.{split-at, take-append-seam, getD-append-seam, drop-drop, length-take-le, take-length, drop-length}
 use borrow.Author.Tests.{eq-eqb, eqb-true}
 use Rattle.text.specs.Read.{ended, body, attach, lines, lineAt, indexOf}
-use Rattle.text.proofs.Find.{indexOf-le}
+use Rattle.text.proofs.Find.{indexOf-le, first-part, only-part}
 
 -- ---- one line and its end
 pub ended-line : (line : List ℕ) → (ended (line ++ (10 ∷ [])) ≡ true) × (body (line ++ (10 ∷ [])) ≡ line)
@@ -32,31 +30,13 @@ line-ended (x ∷ xs) h =
 
 -- the first line end closes it
 first-line : (l : List ℕ) → indexOf 10 l < length l → lines l ≡ take (suc (indexOf 10 l)) l ∷ lines (drop (suc (indexOf 10 l)) l)
-unfolding indexOf lines attach
-first-line [] h = absurd (not-suc-le-zero h)
-first-line (x ∷ xs) h = go (eqb x 10) (first-line xs) h
-  where
-    rest : ℕ → List (List ℕ)
-    rest i = take (suc i) (x ∷ xs) ∷ lines (drop (suc i) (x ∷ xs))
-
-    go : (t : Bool) → (indexOf 10 xs < length xs → lines xs ≡ take (suc (indexOf 10 xs)) xs ∷ lines (drop (suc (indexOf 10 xs)) xs))
-        → cond t 0 (suc (indexOf 10 xs)) < suc (length xs)
-        → cond t ((x ∷ []) ∷ lines xs) (attach x (lines xs)) ≡ rest (cond t 0 (suc (indexOf 10 xs)))
-    go true ih k = refl
-    go false ih k = ap (attach x) (ih (omega arith))
+unfolding lines attach
+first-line = first-part 10 lines suc (λ i. refl) (λ x xs. refl) (λ x. refl)
 
 -- a text with no line end is its one line
 only-line : (l : List ℕ) → 0 < length l → length l ≤ indexOf 10 l → lines l ≡ l ∷ []
-unfolding indexOf lines attach
-only-line [] some h = absurd (not-suc-le-zero some)
-only-line (x ∷ xs) some h = go (eqb x 10) xs (only-line xs) h
-  where
-    go : (t : Bool) (xs : List ℕ) → (0 < length xs → length xs ≤ indexOf 10 xs → lines xs ≡ xs ∷ [])
-        → suc (length xs) ≤ cond t 0 (suc (indexOf 10 xs))
-        → cond t ((x ∷ []) ∷ lines xs) (attach x (lines xs)) ≡ (x ∷ xs) ∷ []
-    go true xs ih k = absurd (not-suc-le-zero k)
-    go false [] ih k = refl
-    go false (y ∷ ys) ih k = ap (attach x) (ih (omega arith) (le-of-suc-le-suc k))
+unfolding lines attach
+only-line = only-part 10 lines suc (λ i. refl) (λ x xs. refl) (λ x. refl)
 
 -- the first k bytes of a text are its first line
 record First (l : List ℕ) (k : ℕ) : Type 0 where
@@ -107,11 +87,15 @@ module _ (s : List ℕ) (at next : ℕ) (ends : next ≡ at + length (lineAt at 
       let size : length (getD (lines (drop at s)) 0 []) ≡ next - at = omega arith in
       rw (← size) (first (drop at s) (omega (arith, length-drop at s)))
 
-  pub line-some : at < next
+  line-some : at < next
   line-some = omega (arith, here .some)
 
   pub line-inside : next ≤ length s
   line-inside = omega (arith, here .inside, length-drop at s)
+
+  -- less is left after a line
+  pub line-less : length s - next < length s - at
+  line-less = omega (arith, line-some, line-inside)
 
   pub line-next : lines (drop at s) ≡ take (next - at) (drop at s) ∷ lines (drop next s)
   line-next =

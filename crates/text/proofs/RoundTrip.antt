@@ -17,7 +17,7 @@ use Rattle.text.specs.Write as Write
 use Rattle.text.specs.Write.{digits, places}
 use Rattle.text.specs.declared.read.Number.{Number}
 use Rattle.text.specs.declared.read.Number.the-variants.{Value, Invalid}
-use Rattle.text.proofs.Places.{one-place, places-hold, places-are}
+use Rattle.text.proofs.DecimalPlaces.{one-place, places-hold, places-are}
 
 no-value : {C : Type 0} {n : ℕ} → Invalid ≡ Value n → C
 no-value h = let z : _≡_ {A = ℕ} 0 1 = cc in absurd (omega arith)
@@ -120,9 +120,9 @@ quotient-zero : (n p : ℕ) → 0 < p → n / p ≡ 0 → n < p
 quotient-zero n p pos e = rw one-mul at (div-lt-iff-lt-mul {x = n} {y = 1} pos .0 (omega arith))
 
 -- eight hexadecimal digits stand for less than 2 ^ 32
-pub eight-digits : (text : List ℕ) → length text ≡ 8 → upTo 4294967295 (numeral 16 0 text) ≡ numeral 16 0 text
+pub eight-digits : (text : List ℕ) {x : Number} → length text ≡ 8 → x ≡ upTo 4294967295 (numeral 16 0 text) → x ≡ numeral 16 0 text
 unfolding upTo
-eight-digits text eight = go (numeral 16 0 text) refl
+eight-digits text eight read = read ∙ go (numeral 16 0 text) refl
   where
     go : (x : Number) → numeral 16 0 text ≡ x → upTo 4294967295 x ≡ x
     go (Value n) e =

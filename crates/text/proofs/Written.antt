@@ -1,12 +1,13 @@
 -- Texts written one after the other are one text. Assumes nothing.
-use Prim.Native.Nat.{ℕ, suc, _+_, _-_, _≤_, min}
+use Prim.Native.Nat.{ℕ, suc, _+_, _-_, _≤_, _<_, min}
 use native.Mathlib.Nat.{zero-add, add-zero, add-suc, suc-add}
+use native.Mathlib.Numerals.{add-one}
 use native.Mathlib.Omega.{arith}
 use native.Mathlib.Decide.{decLe}
 use mathlib.Core.Path.{_≡_, refl, sym, ap, _∙_}
-use mathlib.Core.List.{List, [], _∷_, _++_}
-use lib.ListN.{length, set, length-append}
-use lib.Seq.{sets, length-sets, sets-eq, set-out}
+use mathlib.Core.List.{List, [], _∷_, _++_, append-assoc}
+use lib.ListN.{length, getD, drop, set, length-append, drop-of-length-le}
+use lib.Seq.{sets, length-sets, sets-eq, set-out, drop-cons}
 use Rattle.text.specs.Write.{Written, Whole}
 
 sets-append : (a b out : List ℕ) (at : ℕ) → sets out at (a ++ b) ≡ sets (sets out at a) (at + length a) b
@@ -42,6 +43,10 @@ then {out} {out₁} {out₂} {a} {b} {at} v w = record {
   place = omega (arith, v .place, w .place, same-length v, length-append a b);
 }
 
+pub then-both : {out out₁ out₂ a : List ℕ} (b c : List ℕ) {at at₁ at₂ : ℕ}
+    → Written out at a at₁ out₁ → Written out₁ at₁ (b ++ c) at₂ out₂ → Written out at ((a ++ b) ++ c) at₂ out₂
+then-both {a = a} b c v w = rw (append-assoc a b c) (then v w)
+
 -- what is written from the start of a buffer on ends in it
 pub end-within : {out text out′ : List ℕ} {end : ℕ} → Written out 0 text end out′ → end ≤ length out′
 end-within w = omega (arith, w .place, same-length w)
@@ -69,3 +74,11 @@ turn g v = record { long = same-length v ∙ g .long; rest = λ w. g .rest (then
 
 pub end : {out₀ text out : List ℕ} {at₀ at : ℕ} → Writing out₀ at₀ text [] at out → Written out₀ at₀ text at out
 end {out = out} {at = at} g = g .rest (nothing out at)
+
+-- the bytes of a text one after the other: those from i on are left
+pub copy-turn : {out₀ text out out₁ : List ℕ} {at₀ at at₁ i : ℕ}
+    → Writing out₀ at₀ text (drop i text) at out → i < length text → Written out at (getD text i 0 ∷ []) at₁ out₁ → Writing out₀ at₀ text (drop (i + 1) text) at₁ out₁
+copy-turn {text = text} {i = i} g h w = rw add-one (turn (rw (drop-cons text i 0 h) at g) w)
+
+pub copy-end : {out₀ text out : List ℕ} {at₀ at i : ℕ} → Writing out₀ at₀ text (drop i text) at out → length text ≤ i → Written out₀ at₀ text at out
+copy-end {text = text} {i = i} g h = end (rw (drop-of-length-le text {i = i} h) at g)

@@ -58,6 +58,7 @@ fn digits(out: &mut [u8], at: usize, base: u64, k: usize, n: u64) -> usize
 // How many decimal digits n has: at most 20.
 fn places(n: u64) -> usize
     ensures { λ r. ⌜ r ≡ Write.places n ⌝ }
+    ensures { λ r. ⌜ r ≤ 20 ⌝ }
 {
     let mut k = 1;
     let mut rest = n;

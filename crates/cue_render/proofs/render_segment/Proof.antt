@@ -1,23 +1,35 @@
--- `cue_render::render_segment` meets its contract. Assumes nothing.
-use Rattle.cue_render.proofs.Walk.{all-places, whole-segment}
+-- The kit plays into the places from one of the buffer to another, and into as many of the scratch: both parts have that length.
+use Rattle.cue_render.proofs.Walk.{part-length}
 use denote.Ref.{now}
-use mathlib.Core.Path.{_∙_}
+use mathlib.Core.Path.{sym, _∙_}
+use lib.Seq.{length-take-le}
 use borrow.Rule.Slice.PartMut.{post-is}
 use borrow.Author.Needs.{needs}
 use Rattle.cue_render.proofs.render_segment.Statement.{statement}
 use Rattle.cue_render.proofs.render_segment.Tie as tie
 
+slice-aggregate-play : tie.Need-slice-aggregate-play
+slice-aggregate-play c =
+    let s = c .before .before .before .before in
+    sym (length-take-le _ (now (s .args .scratch)) (s .pre .2))
+
+play-requires : tie.Need-play-requires
+play-requires c κs =
+    let s = c .before .before .before .before in
+    let a = s .args in
+    length-take-le _ (now (a .scratch)) (s .pre .2) ∙ sym (part-length (now (a .out)) (a .from) (a .to) (s .pre .0) (s .pre .1))
+
 returns : tie.Need-returns
 returns c =
-    let s = c .before .before .before .before .before .before .before .before .before in
+    let played = c .before .before .before .before in
+    let s = played .before .before .before .before .before in
     let a = s .args in
-    let size = all-places (now (a .out)) (now (a .scratch)) (a .from) (a .to) (s .pre .0) (s .pre .1) (s .pre .2) in
-    let whole = whole-segment (now (a .out)) (now (a .scratch)) (a .from) (a .to) (s .pre .0) (s .pre .1) (s .pre .2) (a .kit) in
-    let segment = c .before .before .before .before .segment .ensures in
-    (rw (segment .0, size), rw (segment .1 .0 ∙ whole, post-is (a .from) (a .to) (now (a .out)) (s .pre .0)))
+    let play = played .play .ensures in
+    let size = part-length (now (a .out)) (a .from) (a .to) (s .pre .0) (s .pre .1) in
+    (rw (play .0, size), rw (play .1 .0, size, post-is (a .from) (a .to) (now (a .out)) (s .pre .0)))
 
 pub render-segment-spec : {M : Type 1} → statement M
 render-segment-spec =
     tie.close
-    (tie.spec (λ c. search needs) (λ c. search needs) (λ c. search needs) (λ c. search needs) (λ c κs. search needs) (λ c. search needs)
-    (λ c. search needs) returns)
+    (tie.spec (λ c. search needs) (λ c. search needs) (λ c. search needs) (λ c. search needs) (λ c. search needs) (λ c. search needs)
+    slice-aggregate-play play-requires (λ c. search needs) (λ c. search needs) returns)

@@ -1,35 +1,34 @@
--- `listing::cues` meets its contract: the samples are those of the sheet, and the text fits into the buffer. Assumes nothing.
+-- The samples are those of the sheet, and the text fits into the buffer.
 use native.Mathlib.Omega.{arith}
 use mathlib.Core.Path.{refl, sym}
 use lib.Seq.{length-take-le}
-use Rattle.listing.proofs.Rendered.{longest, listed, refused-line}
+use Rattle.listing.proofs.SheetListing.{longest, listed, refused-line}
 use borrow.Author.Needs.{needs}
 use Rattle.listing.proofs.cues.Statement.{statement}
 use Rattle.listing.proofs.cues.Tie as tie
 
 array-share-prefix-samples : tie.Need-array-share-prefix-samples
 array-share-prefix-samples c =
-    let l = c .before .before .before .before .before in
-    let known = rw (c .before .before .length .given .1) at (sym (l .render .ensures .0)) in
-    omega (arith, longest _ _ refl known, l .render .kept .1 .0)
+    let arm = c .before .before in
+    let l = arm .before .before .before in
+    omega (arith, longest _ _ refl (rw (arm .length .given .1) at (sym (l .render .ensures .0))), l .render .kept .1 .0)
 
 slice-aggregate-put-listing : tie.Need-slice-aggregate-put-listing
-slice-aggregate-put-listing c =
-    let l = c .before .before .before .before .before .before in
-    let known = rw (c .before .before .before .length .given .1) at (sym (l .render .ensures .0)) in
-    sym (length-take-le _ _ (omega (arith, longest _ _ refl known, l .render .kept .1 .0)))
+slice-aggregate-put-listing c = sym (length-take-le _ _ (array-share-prefix-samples (c .before)))
 
 returns : tie.Need-returns
 returns c =
-    let l = c .before .before .before .before .before .before .before in
-    let known = rw (c .before .before .before .before .length .given .1) at (sym (l .render .ensures .0)) in
+    let arm = c .before .before .before .before in
+    let l = arm .before .before .before in
+    let known = rw (arm .length .given .1) at (sym (l .render .ensures .0)) in
     listed _ _ refl known _ (l .render .ensures .1) (l .render .kept .1 .0) (omega arith) (c .put-listing .ensures)
 
 returns-2 : tie.Need-returns-2
 returns-2 c =
-    let l = c .before .before .before .before .before .before in
-    let known = rw (c .before .before .before .refusal .given .1) at (sym (l .render .ensures .0)) in
-    refused-line _ _ refl (c .before .before .before .refusal .given .0 .0) known (omega arith) (omega arith) (c .put-refused .ensures)
+    let arm = c .before .before .before in
+    let l = arm .before .before .before in
+    let known = rw (arm .refusal .given .1) at (sym (l .render .ensures .0)) in
+    refused-line _ _ refl (arm .refusal .given .0 .0) known (omega arith) (omega arith) (c .put-refused .ensures)
 
 pub cues-spec : {M : Type 1} → statement M
 cues-spec =

@@ -1,4 +1,4 @@
--- `listing::draws` meets its contract: the text fits into the buffer. Assumes nothing.
+-- The text fits into the buffer, so it stands there whole.
 use Prim.Native.Nat.{_≤_}
 use native.Mathlib.Omega.{arith}
 use lib.ListN.{length}

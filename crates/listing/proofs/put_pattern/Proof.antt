@@ -1,4 +1,4 @@
--- `listing::put_pattern` meets its contract. Assumes nothing.
+-- The pattern and the byte are one text.
 use Rattle.text.proofs.Written.{then}
 use borrow.Author.Needs.{needs}
 use Rattle.listing.proofs.put_pattern.Statement.{statement}
@@ -6,8 +6,8 @@ use Rattle.listing.proofs.put_pattern.Tie as tie
 
 returns : tie.Need-returns
 returns c =
-    let pattern = rw (c .before .before .before .before .before .before .before .to-bits .ensures) at (c .before .before .before .before .before .before .pattern .ensures) in
-    then pattern (c .before .before .byte .ensures)
+    let pattern = c .before .before .before .before .before .before in
+    then (rw (pattern .before .to-bits .ensures) at (pattern .pattern .ensures)) (c .before .before .byte .ensures)
 
 pub put-pattern-spec : {M : Type 1} → statement M
 put-pattern-spec = tie.close (tie.spec (λ c κs. search needs) (λ c κs. search needs) (λ c κs. search needs) (λ c. search needs) returns)

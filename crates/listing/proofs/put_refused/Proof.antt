@@ -1,6 +1,5 @@
--- `listing::put_refused` meets its contract. Assumes nothing.
-use mathlib.Core.List.{append-assoc}
-use Rattle.text.proofs.Written.{then}
+-- The word, the number and the line are one text.
+use Rattle.text.proofs.Written.{then-both}
 use Rattle.listing.specs.Refused.{text}
 use borrow.Author.Needs.{needs}
 use Rattle.listing.proofs.put_refused.Statement.{statement}
@@ -9,9 +8,9 @@ use Rattle.listing.proofs.put_refused.Tie as tie
 returns : tie.Need-returns
 unfolding text
 returns c =
-    let start = c .before .before .before .before .before .before .before .before .before .before .before .bytes .ensures in
-    let number = rw (c .before .before .before .before .before .before .before .number .ensures) at (c .before .before .before .before .before .before .put-number .ensures) in
-    simp append-assoc (simp append-assoc at (then (then start number) (c .before .before .put-number2 .ensures)))
+    let number = c .before .before .before .before .before .before in
+    let written = rw (number .before .number .ensures) at (number .put-number .ensures) in
+    search then-both
 
 pub put-refused-spec : {M : Type 1} → statement M
 put-refused-spec =

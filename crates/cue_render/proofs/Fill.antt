@@ -1,0 +1,98 @@
+-- A loop that writes a buffer towards a list that is known beforehand, and the blocks that are written so here. Assumes nothing.
+use Prim.Native.Nat.{ℕ, zero, suc, _+_, _≤_, _<_}
+use native.Mathlib.Nat.{add-zero}
+use native.Mathlib.Omega.{arith}
+use mathlib.Core.Path.{_≡_, refl, sym, ap, _∙_}
+use mathlib.Core.List.{List, [], _∷_, append-nil}
+use lib.ListN.{length, getD, drop, set, length-replicate, getD-replicate}
+use lib.Seq.{drop-length, getD-drop}
+use lib.Ieee.{Float, nan, binary32, add, ofBits, round}
+use Rattle.block.specs.Block.{Turn, scan}
+use Rattle.block.proofs.Blocks.{Going, begin, turn, end}
+use Rattle.cue_render.specs.Mix.{silence, added}
+
+-- ---- a list is what the stage makes of it that hands every sample on
+abbrev pub copy : ℕ → Float → Turn ℕ
+copy s x = record { sample = x; next = s }
+
+scan-copy : (s : ℕ) (xs : List Float) → scan copy s xs ≡ xs
+unfolding scan
+scan-copy s [] = refl
+scan-copy s (x ∷ xs) = ap (λ (l : List Float). x ∷ l) (scan-copy s xs)
+
+-- the first i places of out are those of the list, and the others hold what they held
+abbrev pub Filling : List Float → List Float → List Float → ℕ → Type 0
+Filling xs out₀ out i = Going copy 0 xs out₀ 0 out i
+
+module _ (xs out₀ : List Float) (same : length xs ≡ length out₀) where
+  fill-begin : Filling xs out₀ out₀ 0
+  fill-begin = begin copy 0 xs out₀ (omega (arith, same))
+
+  module _ (out : List Float) (i : ℕ) (g : Filling xs out₀ out i) where
+    fill-turn : i < length out → (x : Float) → getD xs i nan ≡ x → Filling xs out₀ (set out i x) (i + 1)
+    fill-turn h x e = rw e at (turn copy 0 xs out₀ 0 out i g (omega (arith, same, g .long)))
+
+    -- the place that comes next
+    fill-next : getD out i nan ≡ getD out₀ i nan
+    fill-next =
+        let at : (l : List Float) → getD (drop i l) 0 nan ≡ getD l i nan = λ l. getD-drop i l 0 nan ∙ ap (λ (k : ℕ). getD l k nan) (add-zero i) in
+        sym (at out) ∙ ap (λ (l : List Float). getD l 0 nan) (g .rest) ∙ at out₀
+
+    fill-end : length out ≤ i → out ≡ xs
+    fill-end h =
+        end copy 0 xs out₀ 0 out i g (omega (arith, same, g .long)) .1
+        ∙ rw (scan-copy 0 xs, same, drop-length out₀, append-nil xs)
+
+-- ---- silence
+silence-length : (n : ℕ) → length (silence n) ≡ n
+unfolding silence
+silence-length n = length-replicate n _
+
+silence-at : (n i : ℕ) → i < n → getD (silence n) i nan ≡ ofBits binary32 0
+unfolding silence ofBits round
+silence-at n i h = getD-replicate n i _ nan h
+
+module _ (out₀ : List Float) where
+  pub clear-begin : Filling (silence (length out₀)) out₀ out₀ 0
+  clear-begin = fill-begin _ _ (silence-length _)
+
+  module _ {out : List Float} {i : ℕ} (g : Filling (silence (length out₀)) out₀ out i) where
+    pub clear-turn : i < length out → Filling (silence (length out₀)) out₀ (set out i (ofBits binary32 0)) (i + 1)
+    clear-turn h = fill-turn _ _ (silence-length _) _ _ g h _ (silence-at _ i (omega (arith, g .long)))
+
+    pub clear-end : length out ≤ i → out ≡ silence (length out₀)
+    clear-end = fill-end _ _ (silence-length _) _ _ g
+
+-- a scratch as long as a segment of n samples, once it is cleared
+pub cleared-scratch : (scratch : List Float) (m n : ℕ) → m ≡ n → scratch ≡ silence m → (scratch ≡ silence n) × (length scratch ≡ n)
+cleared-scratch scratch m n long e =
+    let cleared = e ∙ ap silence long in
+    (cleared, ap length cleared ∙ silence-length n)
+
+-- ---- sums
+added-length : (xs ys : List Float) → length (added xs ys) ≡ length xs
+unfolding added
+added-length [] ys = refl
+added-length (x ∷ xs) [] = refl
+added-length (x ∷ xs) (y ∷ ys) = ap suc (added-length xs ys)
+
+added-at : (xs ys : List Float) (i : ℕ) → i < length xs → length ys ≡ length xs → getD (added xs ys) i nan ≡ add binary32 (getD xs i nan) (getD ys i nan)
+unfolding added
+added-at [] ys i h e = absurd (omega arith)
+added-at (x ∷ xs) [] i h e = absurd (omega arith)
+added-at (x ∷ xs) (y ∷ ys) zero h e = refl
+added-at (x ∷ xs) (y ∷ ys) (suc i) h e = added-at xs ys i (omega arith) (omega arith)
+
+module _ (out₀ block : List Float) where
+  pub add-begin : Filling (added out₀ block) out₀ out₀ 0
+  add-begin = fill-begin _ _ (added-length _ _)
+
+  module _ {out : List Float} {i : ℕ} (g : Filling (added out₀ block) out₀ out i) where
+    pub add-turn : i < length out → length block ≡ length out₀
+        → Filling (added out₀ block) out₀ (set out i (add binary32 (getD out i nan) (getD block i nan))) (i + 1)
+    add-turn h same =
+        fill-turn _ _ (added-length _ _) _ _ g h _
+        (rw (fill-next _ _ (added-length _ _) _ _ g) (added-at _ _ i (omega (arith, g .long)) same))
+
+    pub add-end : length out ≤ i → out ≡ added out₀ block
+    add-end = fill-end _ _ (added-length _ _) _ _ g

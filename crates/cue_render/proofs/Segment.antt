@@ -1,0 +1,35 @@
+-- The parts of the kit one after the other. Assumes nothing.
+use Prim.Native.Nat.{ℕ}
+use mathlib.Core.Path.{_≡_}
+use mathlib.Core.List.{List}
+use lib.ListN.{length}
+use lib.Ieee.{Float}
+use Rattle.cue_render.specs.Mix.{silence}
+use Rattle.cue_render.specs.Part.{bassInto, bassAfter, snareInto, snareAfter, syntheticSnareInto, syntheticSnareAfter, hihatInto, hihatAfter}
+use Rattle.cue_render.specs.Kit.{segment, afterSegment}
+use Rattle.cue_render.specs.declared.part.BassPart.{BassPart}
+use Rattle.cue_render.specs.declared.part.SnarePlayed.{SnarePlayed}
+use Rattle.cue_render.specs.declared.part.SyntheticSnarePlayed.{SyntheticSnarePlayed}
+use Rattle.cue_render.specs.declared.part.HihatPlayed.{HihatPlayed}
+use Rattle.cue_render.specs.declared.kit.Kit.{Kit}
+
+-- out is cleared to out₀, the four parts make out₁ to out₄ of it, and the scratch of m places is left silent
+module _ (k : Kit) (n m : ℕ) (out₀ out₁ out₂ out₃ out₄ scratch : List Float) (b : BassPart) (s : SnarePlayed) (y : SyntheticSnarePlayed) (h : HihatPlayed)
+    (cleared : out₀ ≡ silence n)
+    (long₀ : length out₀ ≡ n) (long₁ : length out₁ ≡ length out₀) (long₂ : length out₂ ≡ length out₁) (long₃ : length out₃ ≡ length out₂)
+    (bass : (b ≡ bassAfter (k .bass) (length out₀)) × (out₁ ≡ bassInto (k .bass) out₀))
+    (snare : (s ≡ snareAfter (k .snare) (k .noise) (length out₁)) × (out₂ ≡ snareInto (k .snare) (k .noise) out₁))
+    (synthetic : (y ≡ syntheticSnareAfter (k .«synthetic_snare») (s .noise) (length out₂)) × (out₃ ≡ syntheticSnareInto (k .«synthetic_snare») (s .noise) out₂))
+    (hihat : (h ≡ hihatAfter (k .hihat) (y .noise) (length out₃)) × (out₄ ≡ hihatInto (k .hihat) (y .noise) out₃))
+    (silent : scratch ≡ silence m) where
+  block-is : out₄ ≡ segment k n
+  unfolding segment
+  block-is = cc
+
+  kit-is : record { bass = b; snare = s .part; «synthetic_snare» = y .part; hihat = h .part; noise = h .noise } ≡ afterSegment k n
+  unfolding afterSegment
+  kit-is = cc
+
+  pub parts-in-turn : (record { bass = b; snare = s .part; «synthetic_snare» = y .part; hihat = h .part; noise = h .noise } ≡ afterSegment k n)
+      × ((out₄ ≡ segment k n) × (scratch ≡ silence m))
+  parts-in-turn = (kit-is, (block-is, silent))

@@ -1,0 +1,87 @@
+-- The kit: how it starts, what it makes of a segment, and what a cue does to it. Definitions only.
+use Prim.Native.Nat.{ℕ}
+use mathlib.Core.Bool.{false}
+use mathlib.Core.List.{List}
+use lib.IntN.{pos}
+use lib.Ieee.{Float, binary32, ofInt}
+use Rattle.ieee754.specs.Single.{decimal}
+use Rattle.analog_bass_drum.specs.AnalogBassDrum as AnalogBassDrum
+use Rattle.analog_snare_drum.specs.AnalogSnareDrum as AnalogSnareDrum
+use Rattle.synthetic_snare_drum.specs.SyntheticSnareDrum as SyntheticSnareDrum
+use Rattle.hihat.specs.Hihat as hihat
+use Rattle.cue_render.specs.Mix.{silence}
+use Rattle.cue_sheet.specs.declared.Cue.{Cue}
+use Rattle.cue_sheet.specs.declared.Cue.the-variants.{Bass, Snare, SyntheticSnare, Hihat}
+use Rattle.cue_render.specs.Part as Part
+use Rattle.cue_render.specs.Part.{knobsOf, bassInto, bassAfter, snareInto, snareAfter, syntheticSnareInto, syntheticSnareAfter, hihatInto, hihatAfter}
+use Rattle.cue_render.specs.declared.part.Playing.{Playing}
+use Rattle.cue_render.specs.declared.kit.Kit.{Kit}
+
+-- ---- the start: all voices from init, none of them struck, and the noise state at 33
+unfoldable pub unstruck : Playing
+unstruck = record {
+  struck = false;
+  trigger = false;
+  knobs = record { accent = decimal 0 0; f0 = decimal 0 0; a = decimal 0 0; decay = decimal 0 0; c = decimal 0 0 };
+}
+
+-- the sample rate is the f32 nearest to the sheet's
+unfoldable pub start : ℕ → Kit
+start rate =
+    let sampleRate = ofInt binary32 (pos rate) in
+    record {
+      bass = record { voice = AnalogBassDrum.init AnalogBassDrum.ZERO sampleRate; playing = unstruck };
+      snare = record { voice = AnalogSnareDrum.init AnalogSnareDrum.ZERO sampleRate; playing = unstruck };
+      «synthetic_snare» = record { voice = SyntheticSnareDrum.init SyntheticSnareDrum.ZERO sampleRate; playing = unstruck };
+      hihat = record { voice = hihat.init hihat.ZERO sampleRate; playing = unstruck };
+      noise = 33;
+    }
+
+-- ---- a segment of n samples: each is 0.0 plus the struck voices in the order b, s, y, h, and the noise state passes from one to the next
+unfoldable pub segment : Kit → ℕ → List Float
+segment k n =
+    let s = snareAfter (k .snare) (k .noise) n in
+    let y = syntheticSnareAfter (k .«synthetic_snare») (s .noise) n in
+    hihatInto (k .hihat) (y .noise) (syntheticSnareInto (k .«synthetic_snare») (s .noise) (snareInto (k .snare) (k .noise) (bassInto (k .bass) (silence n))))
+
+unfoldable pub afterSegment : Kit → ℕ → Kit
+afterSegment k n =
+    let s = snareAfter (k .snare) (k .noise) n in
+    let y = syntheticSnareAfter (k .«synthetic_snare») (s .noise) n in
+    let h = hihatAfter (k .hihat) (y .noise) n in
+    record { bass = bassAfter (k .bass) n; snare = s .part; «synthetic_snare» = y .part; hihat = h .part; noise = h .noise }
+
+-- ---- the kit with the voice of a cue struck
+unfoldable pub strike : Kit → Cue → Kit
+strike k (Bass accent f0 a decay c) =
+    record {
+      bass = record { voice = k .bass .voice; playing = Part.strike (knobsOf (Bass accent f0 a decay c)) };
+      snare = k .snare;
+      «synthetic_snare» = k .«synthetic_snare»;
+      hihat = k .hihat;
+      noise = k .noise;
+    }
+strike k (Snare accent f0 a decay c) =
+    record {
+      bass = k .bass;
+      snare = record { voice = k .snare .voice; playing = Part.strike (knobsOf (Snare accent f0 a decay c)) };
+      «synthetic_snare» = k .«synthetic_snare»;
+      hihat = k .hihat;
+      noise = k .noise;
+    }
+strike k (SyntheticSnare accent f0 a decay c) =
+    record {
+      bass = k .bass;
+      snare = k .snare;
+      «synthetic_snare» = record { voice = k .«synthetic_snare» .voice; playing = Part.strike (knobsOf (SyntheticSnare accent f0 a decay c)) };
+      hihat = k .hihat;
+      noise = k .noise;
+    }
+strike k (Hihat accent f0 a decay c) =
+    record {
+      bass = k .bass;
+      snare = k .snare;
+      «synthetic_snare» = k .«synthetic_snare»;
+      hihat = record { voice = k .hihat .voice; playing = Part.strike (knobsOf (Hihat accent f0 a decay c)) };
+      noise = k .noise;
+    }

@@ -1,0 +1,25 @@
+// Silence, and blocks added sample by sample.
+ghost use mathlib.Core.Path.{_≡_};
+ghost use lib.ListN.{length};
+ghost use Rattle.cue_render.specs.Mix as spec;
+
+pub(crate) fn clear(out: &mut [f32])
+    ensures { λ _. ⌜ now (out .exit) ≡ spec.silence (length (now (out .entry))) ⌝ }
+{
+    let mut i = 0;
+    while i < out.len() {
+        out[i] = 0.0;
+        i += 1;
+    }
+}
+
+pub(crate) fn add_to(out: &mut [f32], block: &[f32])
+    requires { ⌜ length (now block) ≡ length (now out) ⌝ }
+    ensures { λ _. ⌜ now (out .exit) ≡ spec.added (now (out .entry)) (now (block .entry)) ⌝ }
+{
+    let mut i = 0;
+    while i < out.len() {
+        out[i] = out[i] + block[i];
+        i += 1;
+    }
+}

@@ -4,6 +4,9 @@ use Rattle.filter.specs.Svf.{passed}
 use Rattle.filter.proofs.Svf.passed.Statement.{statement}
 use Rattle.filter.proofs.Svf.passed.Tie as tie
 
-pub passed-spec : {M : Type 1} → statement M
+returns : tie.Need-returns
 unfolding passed
-passed-spec = tie.close (tie.spec (λ c. refl))
+returns c = refl
+
+pub passed-spec : {M : Type 1} → statement M
+passed-spec = tie.close (tie.spec returns)

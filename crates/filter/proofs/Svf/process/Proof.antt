@@ -4,6 +4,9 @@ use Rattle.filter.specs.Svf.{process}
 use Rattle.filter.proofs.Svf.process.Statement.{statement}
 use Rattle.filter.proofs.Svf.process.Tie as tie
 
-pub process-spec : {M : Type 1} → statement M
+returns : tie.Need-returns
 unfolding process
-process-spec = tie.close (tie.spec (λ c κs. search needs) (λ c κs. search needs) (λ c. cc))
+returns c = cc
+
+pub process-spec : {M : Type 1} → statement M
+process-spec = tie.close (tie.spec (λ c κs. search needs) (λ c κs. search needs) returns)

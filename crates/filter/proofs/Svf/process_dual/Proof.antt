@@ -4,6 +4,9 @@ use Rattle.filter.specs.Svf.{processDual}
 use Rattle.filter.proofs.Svf.process_dual.Statement.{statement}
 use Rattle.filter.proofs.Svf.process_dual.Tie as tie
 
-pub process-dual-spec : {M : Type 1} → statement M
+returns : tie.Need-returns
 unfolding processDual
-process-dual-spec = tie.close (tie.spec (λ c κs. search needs) (λ c κs. search needs) (λ c κs. search needs) (λ c. cc))
+returns c = cc
+
+pub process-dual-spec : {M : Type 1} → statement M
+process-dual-spec = tie.close (tie.spec (λ c κs. search needs) (λ c κs. search needs) (λ c κs. search needs) returns)

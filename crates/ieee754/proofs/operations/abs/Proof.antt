@@ -10,6 +10,9 @@ returns : tie.Need-returns
 unfolding abs
 returns c = rw (is-nan _ (c .if1 .taken))
 
+float-to-bits-result : tie.Need-float-to-bits-result
+float-to-bits-result c = no-nan _ (c .if1 .left)
+
 float-from-bits-result : tie.Need-float-from-bits-result
 float-from-bits-result c = rw (and-mask _ 31) (cleared-number binary32 _ (rw (c .before .good .0 .1) tt) (no-nan _ (c .if1 .left)))
 
@@ -17,4 +20,4 @@ returns-2 : tie.Need-returns-2
 returns-2 c = rw (and-mask _ 31) (sign-cleared binary32 _ (rw (c .before .good .0 .1) tt) (no-nan _ (c .if1 .left)))
 
 pub abs-spec : {M : Type 1} → statement M
-abs-spec = tie.close (tie.spec returns (λ c. no-nan _ (c .if1 .left)) float-from-bits-result returns-2)
+abs-spec = tie.close (tie.spec returns float-to-bits-result float-from-bits-result returns-2)

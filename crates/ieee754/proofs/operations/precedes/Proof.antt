@@ -16,10 +16,16 @@ returns-2 c =
     let a = c .before .before .args in
     simp (c .before .if1 .left, not-true (eq (a .x) (a .y)) (c .if2 .taken))
 
+float-to-bits-result : tie.Need-float-to-bits-result
+float-to-bits-result c = second-number _ _ (c .if2 .left)
+
+float-to-bits-result-2 : tie.Need-float-to-bits-result-2
+float-to-bits-result-2 c = first-number _ _ (c .if2 .left)
+
 returns-3 : tie.Need-returns-3
 returns-3 c =
     let s = c .before .before in
     zeros-in-order _ _ (c .if2 .left) binary32 (rw (s .good .0 .1) tt) (rw (s .good .1 .0 .1) tt) (c .before .if1 .left)
 
 pub precedes-spec : {M : Type 1} → statement M
-precedes-spec = tie.close (tie.spec returns returns-2 (λ c. second-number _ _ (c .if2 .left)) (λ c. first-number _ _ (c .if2 .left)) returns-3)
+precedes-spec = tie.close (tie.spec returns returns-2 float-to-bits-result float-to-bits-result-2 returns-3)

@@ -93,10 +93,16 @@ module _ (c : tie.Then5) where
   subnormal : sqrt binary32 (x (c .before)) ≡ rootOf binary32 b
   subnormal = of-value binary32 _ b (some (c .before)) (rw (c .if5 .taken, mul-one, mod-eq-of-lt small) at (units-of (c .before)))
 
+rounded-root-requires : tie.Need-rounded-root-requires
+rounded-root-requires c κs = rw (whole c) (omega (arith, moved c))
+
 returns-5 : tie.Need-returns-5
 returns-5 c = c .rounded-root .ensures (b (c .before)) (rw (whole (c .before)) (places (c .before))) ∙ sym (subnormal (c .before))
 
 -- ---- a normal x
+
+rounded-root-requires-2 : tie.Need-rounded-root-requires-2
+rounded-root-requires-2 c κs = omega (arith, c .significand .ensures, c .before .before .if4 .left)
 
 returns-6 : tie.Need-returns-6
 returns-6 c =
@@ -114,5 +120,4 @@ pub sqrt-spec : {M : Type 1} → statement M
 sqrt-spec =
     tie.close
     (tie.spec returns returns-2 (λ c. number (c .before)) returns-3 returns-4 (λ c. omega (arith, lead c .1)) (λ c. omega (arith, zeros c))
-    (λ c. omega (arith, lead c .1)) (λ c κs. rw (whole c) (omega (arith, moved c))) returns-5 (λ c. search needs) (λ c κs. search needs)
-    (λ c κs. omega (arith, c .significand .ensures, c .before .before .if4 .left)) returns-6)
+    (λ c. omega (arith, lead c .1)) rounded-root-requires returns-5 (λ c. search needs) (λ c κs. search needs) rounded-root-requires-2 returns-6)

@@ -6,7 +6,7 @@ use Rattle.filter.proofs.Svf.process.Tie as tie
 
 returns : tie.Need-returns
 unfolding process
-returns c = cc
+returns c = rw (c .output .ensures, c .before .before .passed .ensures)
 
 pub process-spec : {M : Type 1} → statement M
 process-spec = tie.close (tie.spec (λ c κs. search needs) (λ c κs. search needs) returns)

@@ -6,7 +6,9 @@ use Rattle.filter.proofs.Svf.process_dual.Tie as tie
 
 returns : tie.Need-returns
 unfolding processDual
-returns c = cc
+returns c =
+    let at-passed = c .before .before .before in
+    rw (c .output2 .ensures, c .before .output .ensures, at-passed .passed .ensures)
 
 pub process-dual-spec : {M : Type 1} → statement M
 process-dual-spec = tie.close (tie.spec (λ c κs. search needs) (λ c κs. search needs) (λ c κs. search needs) returns)

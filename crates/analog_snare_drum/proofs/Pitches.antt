@@ -1,4 +1,4 @@
--- The pitches that `decay` and `snappy` make lie in the tables, so neither ratio is replaced. Assumes nothing.
+-- The pitches that `decay` and `snappy` make lie in the tables, so neither ratio is replaced.
 use mathlib.Core.Path.{_≡_}
 use native.Mathlib.Omega.{arith}
 use lib.Ieee.{Float, binary32, neg}

@@ -1,4 +1,4 @@
--- An excitation at rest is that of the next turn too, so it is right to keep it. Assumes nothing.
+-- An excitation at rest is that of the next turn too, so it is right to keep it.
 use Prim.Native.Nat.{ℕ}
 use mathlib.Core.Path.{_≡_, refl, sym}
 use mathlib.Core.Bool.{Bool, true}

@@ -1,4 +1,4 @@
--- What is known of an accepted sheet: its rate and its length lie between their bounds, and its cues have passed their questions. Assumes nothing.
+-- What is known of an accepted sheet: its rate and its length lie between their bounds, and its cues have passed their questions.
 use Prim.Native.Nat.{ℕ, _+_, _<_}
 use mathlib.Core.Path.{_≡_, refl, sym, _∙_}
 use mathlib.Core.List.{List, [], _∷_}

@@ -1,4 +1,4 @@
--- A loop that writes a buffer towards a list that is known beforehand, and the blocks that are written so here. Assumes nothing.
+-- A loop that writes a buffer towards a list that is known beforehand, and the blocks that are written so here.
 use Prim.Native.Nat.{ℕ, zero, suc, _+_, _≤_, _<_}
 use native.Mathlib.Nat.{add-zero}
 use native.Mathlib.Omega.{arith}

@@ -1,4 +1,4 @@
--- No call of a voice is refused while an accepted sheet is rendered. Assumes nothing.
+-- No call of a voice is refused while an accepted sheet is rendered.
 use Prim.Native.Nat.{ℕ, zero, suc, _-_, _^_, _≤_}
 use native.Mathlib.Omega.{arith}
 use mathlib.Core.Path.{_≡_, refl, sym, ap, _∙_}

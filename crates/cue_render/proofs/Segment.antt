@@ -1,4 +1,4 @@
--- The parts of the kit one after the other. Assumes nothing.
+-- The parts of the kit one after the other.
 use Prim.Native.Nat.{ℕ}
 use mathlib.Core.Path.{_≡_}
 use mathlib.Core.List.{List}

@@ -1,4 +1,4 @@
--- The three answers to a sheet and a buffer, and what each leaves in the buffer. Assumes nothing.
+-- The three answers to a sheet and a buffer, and what each leaves in the buffer.
 use Prim.Native.Nat.{ℕ, _≤_, _<_}
 use mathlib.Core.Path.{_≡_, refl, sym}
 use mathlib.Core.List.{List, _++_}

@@ -1,4 +1,4 @@
--- The walk over an accepted sheet, which fills the buffer segment by segment. Assumes nothing.
+-- The walk over an accepted sheet, which fills the buffer segment by segment.
 use Prim.Native.Nat.{ℕ, _+_, _-_, _≤_, _<_}
 use native.Mathlib.Omega.{arith}
 use mathlib.Core.Path.{_≡_, refl, sym, ap, _∙_}

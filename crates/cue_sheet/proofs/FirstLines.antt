@@ -1,4 +1,4 @@
--- The numbers of a first line: asked for one after the other, and their ranges. Assumes nothing.
+-- The numbers of a first line: asked for one after the other, and their ranges.
 use Prim.Native.Nat.{ℕ, _≤_, _<_}
 use native.Mathlib.Omega.{arith}
 use mathlib.Core.Path.{_≡_, refl}

@@ -1,4 +1,4 @@
--- The five patterns of a cue line, asked for one after the other: the first that is none ends it. Assumes nothing.
+-- The five patterns of a cue line, asked for one after the other: the first that is none ends it.
 use Prim.Native.Nat.{ℕ}
 use mathlib.Core.Path.{_≡_}
 use Rattle.text.specs.declared.read.Number.{Number}

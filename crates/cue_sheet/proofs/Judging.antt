@@ -1,4 +1,4 @@
--- The walk over the lines of a sheet, of whoever judges it and of whoever reads an accepted sheet again. Assumes nothing.
+-- The walk over the lines of a sheet, of whoever judges it and of whoever reads an accepted sheet again.
 use Prim.Native.Nat.{ℕ, _+_, _-_, _≤_, _<_}
 use native.Mathlib.Nat.{sub-zero}
 use native.Mathlib.Omega.{arith}

@@ -1,4 +1,4 @@
--- A not-a-number passes no question. Assumes nothing.
+-- A not-a-number passes no question.
 use Prim.Native.Nat.{ℕ}
 use mathlib.Core.Path.{_≡_, refl, sym, _∙_}
 use mathlib.Core.Bool.{Bool, true, false, not, false≢true}

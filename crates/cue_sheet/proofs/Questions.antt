@@ -1,4 +1,4 @@
--- What the questions of a line show of the cue that it stands for. Assumes nothing.
+-- What the questions of a line show of the cue that it stands for.
 use Prim.Native.Nat.{ℕ, zero, suc, _≤_, _<_}
 use native.Mathlib.Omega.{arith}
 use mathlib.Core.Path.{_≡_, refl, sym, ap, _∙_}

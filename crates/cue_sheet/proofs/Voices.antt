@@ -1,4 +1,4 @@
--- A voice's field by its length, as the code asks for it. Assumes nothing.
+-- A voice's field by its length, as the code asks for it.
 use Prim.Native.Nat.{ℕ}
 use native.Mathlib.Omega.{arith}
 use mathlib.Core.Path.{_≡_, refl}

@@ -1,4 +1,4 @@
--- The five passes over a block leave the samples and the states that one pass leaves, which takes each sample through all five. Assumes nothing.
+-- The five passes over a block leave the samples and the states that one pass leaves, which takes each sample through all five.
 use mathlib.Core.Path.{_≡_, sym, _∙_, ap}
 use mathlib.Core.List.{List}
 use Prim.Native.Nat.{ℕ}

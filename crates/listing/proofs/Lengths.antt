@@ -1,4 +1,4 @@
--- The longest text that `draws` prints. Assumes nothing.
+-- The longest text that `draws` prints.
 use Prim.Native.Nat.{ℕ, zero, suc, _+_, _*_, _^_, _≤_, _<_}
 use native.Mathlib.Nat.{mod-lt}
 use native.Mathlib.Omega.{arith}

@@ -1,5 +1,4 @@
 -- The request that an input of `draws` makes: an input is accepted exactly where it is the text of a state and a count, so one of more than 16 bytes is refused.
--- Assumes nothing.
 use Prim.Native.Nat.{ℕ, _≤_, _<_}
 use native.Mathlib.Omega.{arith}
 use native.Mathlib.Decide.{decLe}

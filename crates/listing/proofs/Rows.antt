@@ -1,4 +1,4 @@
--- The rows of a listing, written one after the other. Assumes nothing.
+-- The rows of a listing, written one after the other.
 use Prim.Native.Nat.{ℕ, suc, _+_, _-_, _≤_, _<_}
 use native.Mathlib.Numerals.{add-one}
 use native.Mathlib.Omega.{arith}

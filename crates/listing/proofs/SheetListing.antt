@@ -1,4 +1,4 @@
--- A sheet rendered into 16384 places: no accepted sheet is longer, and the first places are the sheet's samples. Assumes nothing.
+-- A sheet rendered into 16384 places: no accepted sheet is longer, and the first places are the sheet's samples.
 use Prim.Native.Nat.{ℕ, suc, _+_, _*_, _≤_, _<_}
 use native.Mathlib.Omega.{arith}
 use mathlib.Core.Path.{_≡_, refl, sym, ap, _∙_}

@@ -1,4 +1,4 @@
--- How many digits a decimal number has. Assumes nothing.
+-- How many digits a decimal number has.
 use Prim.Native.Nat.{ℕ, zero, suc, _*_, _/_, _^_, _≤_, _<_, max}
 use native.Mathlib.Nat.{pow-suc, one-le-pow, not-suc-le-zero}
 use native.Mathlib.Omega.{arith}

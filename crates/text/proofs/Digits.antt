@@ -1,4 +1,4 @@
--- The digits of a number: how many there are, and a loop that stores them from the last one on. Assumes nothing.
+-- The digits of a number: how many there are, and a loop that stores them from the last one on.
 use Prim.Native.Nat.{ℕ, zero, suc, _+_, _-_, _/_, _%_, _^_, _≤_, _<_}
 use native.Mathlib.Nat.{pow-zero, pow-succ', div-one, div-div-eq-div-mul, mod-lt, not-suc-le-zero}
 use native.Mathlib.Numerals.{sub-one}

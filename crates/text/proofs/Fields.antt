@@ -1,4 +1,4 @@
--- The fields of a line: cut at a comma (44), counted, sought, and joined again. Assumes nothing.
+-- The fields of a line: cut at a comma (44), counted, sought, and joined again.
 use Prim.Native.Nat.{ℕ, suc, _+_, _-_, _≤_, _<_}
 use native.Mathlib.Nat.{not-suc-le-zero, sub-zero}
 use native.Mathlib.Omega.{arith}

@@ -1,4 +1,4 @@
--- The search for a byte, what its answer says of the text, and the parts that each such byte cuts a text into. Assumes nothing.
+-- The search for a byte, what its answer says of the text, and the parts that each such byte cuts a text into.
 use Prim.Native.Nat.{ℕ, suc, _+_, _-_, _≤_, _<_}
 use native.Mathlib.Nat.{le-of-suc-le-suc, not-suc-le-zero}
 use native.Mathlib.Numerals.{add-one}

@@ -1,4 +1,4 @@
--- The lines of a text, each with its end (10): cut at the first end, and walked one after the other. Assumes nothing.
+-- The lines of a text, each with its end (10): cut at the first end, and walked one after the other.
 use Prim.Native.Nat.{ℕ, suc, _+_, _-_, _≤_, _<_}
 use native.Mathlib.Omega.{arith}
 use native.Mathlib.Decide.{decLt}

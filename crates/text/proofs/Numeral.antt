@@ -1,4 +1,4 @@
--- Reading a number digit by digit, up to a limit. Assumes nothing.
+-- Reading a number digit by digit, up to a limit.
 use Prim.Native.Nat.{ℕ, suc, _+_, _*_, _^_, _≤_, _<_}
 use Prim.Native.Char.{code}
 use native.Mathlib.Nat.{le-mul-of-pos-right, mul-le-mul}

@@ -1,4 +1,4 @@
--- Reading and writing agree: a number that is written is read back, and a decimal that is read is the one that is written. Assumes nothing.
+-- Reading and writing agree: a number that is written is read back, and a decimal that is read is the one that is written.
 use Prim.Native.Nat.{ℕ, zero, suc, _+_, _-_, _*_, _/_, _%_, _^_, _≤_, _<_, max}
 use native.Mathlib.Nat.{zero-add, add-zero, add-assoc, zero-mul, mul-one, one-mul, mul-assoc, add-mul, pow-zero, pow-suc, pow-succ', one-le-pow}
 use native.Mathlib.Nat.{mod-lt, mod-one, mod-eq-of-lt, div-one, div-div-eq-div-mul, le-div-iff-mul-le, div-lt-iff-lt-mul}

@@ -1,4 +1,4 @@
--- Texts written one after the other are one text. Assumes nothing.
+-- Texts written one after the other are one text.
 use Prim.Native.Nat.{ℕ, suc, _+_, _-_, _≤_, _<_, min}
 use native.Mathlib.Nat.{zero-add, add-zero, add-suc, suc-add}
 use native.Mathlib.Numerals.{add-one}

@@ -1,4 +1,4 @@
--- Examples at the edges, each computed from the definitions that the contracts cite. Assumes nothing.
+-- Examples at the edges, each computed from the definitions that the contracts cite.
 use mathlib.Core.Path.{_≡_, refl}
 use Prim.Native.Nat.{ℕ}
 use lib.ListN.{getD}

@@ -1,7 +1,8 @@
 // utils/random.rs: a linear congruential generator of 32 bits. The state, a static in the Rust, goes in and comes back.
 ghost use mathlib.Core.Path.{_≡_};
-ghost use Prim.Native.Nat.{_*_, _%_, _^_};
+ghost use Prim.Native.Nat.{_*_, _%_, _^_, _<_};
 ghost use Rattle.random.specs.Random as spec;
+use std::num::wrapping_add_u32;
 
 // A float drawn. The word drawn with it is the next state.
 #[repr(C)]
@@ -10,19 +11,33 @@ pub struct Draw {
     pub value: f32,
 }
 
-// Rust's `u32::wrapping_mul`.
+// The only multiplication here, for a processor without a wide multiply. Its precondition is the proof, at every call, that a multiplication takes
+// two numbers below 65,536.
+fn mul16(a: u32, b: u32) -> u32
+    requires { ⌜ (a < 65536) × (b < 65536) ⌝ }
+    ensures { λ r. ⌜ r ≡ a * b ⌝ }
+{
+    a * b
+}
+
+// Rust's `u32::wrapping_mul`, put together from 16-bit halves: first a * b_low, then what b_high adds. The product of the high halves is left out: it is
+// a multiple of 2^32.
 fn wrapping_mul(a: u32, b: u32) -> u32
     ensures { λ r. ⌜ r ≡ a * b % 2 ^ 32 ⌝ }
 {
-    let product = (a as u64) * (b as u64);
-    (product % 0x1_0000_0000) as u32
+    let a_high = a >> 16;
+    let a_low = a % 65536;
+    let b_high = b >> 16;
+    let b_low = b % 65536;
+    let by_b_low = wrapping_add_u32(mul16(a_low, b_low), mul16(a_high, b_low) << 16);
+    wrapping_add_u32(by_b_low, mul16(a_low, b_high) << 16)
 }
 
 // The word drawn, which is the next state.
 pub fn get_word(state: u32) -> u32
     ensures { λ r. ⌜ r ≡ spec.getWord state ⌝ }
 {
-    std::num::wrapping_add_u32(wrapping_mul(state, 1664525), 1013904223)
+    wrapping_add_u32(wrapping_mul(state, 1664525), 1013904223)
 }
 
 pub fn get_float(state: u32) -> Draw

@@ -1,12 +1,13 @@
--- The product of two numbers of 32 bits fits 64.
+-- What is put together from the products of the halves is the product.
 use borrow.Author.Needs.{needs}
-use native.Mathlib.Nat.{mul-le-mul}
-use native.Mathlib.Omega.{arith}
+use Rattle.random.proofs.Product.{halves}
 use Rattle.random.proofs.wrapping_mul.Statement.{statement}
 use Rattle.random.proofs.wrapping_mul.Tie as tie
 
-mul-product : tie.Need-mul-product
-mul-product c = record { fits = omega (arith, mul-le-mul (c .fits .a .fits) (c .fits .b .fits)) }
+returns : tie.Need-returns
+returns c = let at-start = c .before .before .before .before .before in cc (halves (at-start .args .a) (at-start .args .b))
 
 pub wrapping-mul-spec : {M : Type 1} → statement M
-wrapping-mul-spec = tie.close (tie.spec mul-product (λ c. search needs) (λ c. search needs))
+wrapping-mul-spec =
+    tie.close
+    (tie.spec (λ c κs. search needs) (λ c κs. search needs) (λ c κs. search needs) (λ c κs. search needs) (λ c κs. search needs) returns)

@@ -29,8 +29,8 @@ fn wrapping_mul(a: u32, b: u32) -> u32
     let a_low = a % 65536;
     let b_high = b >> 16;
     let b_low = b % 65536;
-    let by_b_low = wrapping_add_u32(mul16(a_low, b_low), mul16(a_high, b_low) << 16);
-    wrapping_add_u32(by_b_low, mul16(a_low, b_high) << 16)
+    let a_times_b_low = wrapping_add_u32(mul16(a_low, b_low), mul16(a_high, b_low) << 16);
+    wrapping_add_u32(a_times_b_low, mul16(a_low, b_high) << 16)
 }
 
 // The word drawn, which is the next state.

@@ -20,8 +20,8 @@ fn mul16(a: u32, b: u32) -> u32
     a * b
 }
 
-// Rust's `u32::wrapping_mul`, put together from 16-bit halves: first a * b_low, then what b_high adds. The product of the high halves is left out: it is
-// a multiple of 2^32.
+// Rust's `u32::wrapping_mul`, put together from 16-bit halves: first a * b_low, then what b_high adds. The product of the two high halves is left out:
+// it would add a multiple of 2^32.
 fn wrapping_mul(a: u32, b: u32) -> u32
     ensures { λ r. ⌜ r ≡ a * b % 2 ^ 32 ⌝ }
 {

@@ -5,7 +5,7 @@ use native.Mathlib.Omega.{arith}
 use mathlib.Core.Path.{_≡_, sym, _∙_}
 use mathlib.Core.Bool.{Bool, true, false, not}
 use lib.Dec.{T, ltb, leb}
-use lib.Ieee.{nan, binary32, ofBits, nanBits}
+use lib.Ieee.{nan, Format, binary32, ofBits, nanBits}
 use lib.Ieee.Bits.{nanBits-is, nanBits-above}
 use borrow.Author.Tests.{lt-ltb, le-ltb, le-leb, lt-leb, not-false}
 use Rattle.ieee754.proofs.Fields.{is-nan, nan-test}
@@ -18,8 +18,8 @@ number-bits bits = rw (nanBits-above binary32 bits) (go (decLt 2139095040 (bits 
     go (yes h) = rw (lt-ltb 2139095040 (bits % 2147483648) h) (lt-leb (bits % 2147483648) 2139095040 h)
     go (no h) = rw (le-ltb 2139095040 (bits % 2147483648) (omega arith)) (le-leb (bits % 2147483648) 2139095040 (omega arith))
 
-pub nan-of : (bits : ℕ) → nanBits binary32 bits ≡ true → ofBits binary32 bits ≡ nan
-nan-of bits h = is-nan (ofBits binary32 bits) (nan-test (ofBits binary32 bits) ∙ sym (nanBits-is binary32 bits) ∙ h)
+pub nan-of : (f : Format) (bits : ℕ) → nanBits f bits ≡ true → ofBits f bits ≡ nan
+nan-of f bits h = is-nan (ofBits f bits) (nan-test (ofBits f bits) ∙ sym (nanBits-is f bits) ∙ h)
 
 -- what the test of a pattern says
 module _ (bits : ℕ) {number : Bool} (known : number ≡ not (nanBits binary32 bits)) where
@@ -27,4 +27,4 @@ module _ (bits : ℕ) {number : Bool} (known : number ≡ not (nanBits binary32 
   made h = rw (← known, h) tt
 
   pub nan-read : number ≡ false → ofBits binary32 bits ≡ nan
-  nan-read h = nan-of bits (not-false (nanBits binary32 bits) (sym known ∙ h))
+  nan-read h = nan-of binary32 bits (not-false (nanBits binary32 bits) (sym known ∙ h))

@@ -2,6 +2,8 @@
 // result for every input. The contracts know one not-a-number: where a result is one, its pattern is
 // left open.
 mod convert;
+mod min_max;
+mod min_max_f64;
 mod operations;
 mod pattern;
 mod root;
@@ -10,11 +12,25 @@ pub use convert::nearest_f32;
 pub use convert::truncate_i32;
 pub use convert::truncate_u32;
 pub use convert::truncate_usize;
+pub use min_max::maximum;
+pub use min_max::maximum_magnitude;
+pub use min_max::maximum_magnitude_number;
+pub use min_max::maximum_number;
+pub use min_max::minimum;
+pub use min_max::minimum_magnitude;
+pub use min_max::minimum_magnitude_number;
+pub use min_max::minimum_number;
+pub use min_max_f64::maximum_f64;
+pub use min_max_f64::maximum_magnitude_f64;
+pub use min_max_f64::maximum_magnitude_number_f64;
+pub use min_max_f64::maximum_number_f64;
+pub use min_max_f64::minimum_f64;
+pub use min_max_f64::minimum_magnitude_f64;
+pub use min_max_f64::minimum_magnitude_number_f64;
+pub use min_max_f64::minimum_number_f64;
 pub use operations::abs;
 pub use operations::clamp;
 pub use operations::is_same;
-pub use operations::maximum_number;
-pub use operations::minimum_number;
 pub use pattern::from_bits;
 pub use pattern::is_number;
 pub use pattern::to_bits;

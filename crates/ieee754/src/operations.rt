@@ -1,4 +1,4 @@
-// Sameness, the sign cleared, the smaller and the larger of two numbers, and a value held between bounds.
+// Sameness, the sign cleared, and a value held between bounds.
 ghost use mathlib.Core.Path.{_≡_};
 ghost use mathlib.Core.Bool.{true};
 ghost use Rattle.ieee754.specs.Operations as Operations;
@@ -19,46 +19,6 @@ pub fn abs(x: f32) -> f32
         return x;
     }
     f32::from_bits(f32::to_bits(x) & 0x7fff_ffff)
-}
-
-// Whether x is below y, where -0.0 is below 0.0.
-fn precedes(x: f32, y: f32) -> bool
-    ensures { λ r. ⌜ r ≡ Operations.precedes x y ⌝ }
-{
-    if x < y {
-        return true;
-    }
-    if x != y {
-        return false;
-    }
-    // equal numbers have one pattern, but for the zeros, of which -0.0 has the larger
-    f32::to_bits(y) < f32::to_bits(x)
-}
-
-// The smaller of two numbers, -0.0 below 0.0; the other operand where one is not a number.
-pub fn minimum_number(x: f32, y: f32) -> f32
-    ensures { λ r. ⌜ r ≡ Operations.minimumNumber x y ⌝ }
-{
-    if x != x {
-        return y;
-    }
-    if y != y {
-        return x;
-    }
-    if precedes(x, y) { x } else { y }
-}
-
-// The larger of two numbers, 0.0 above -0.0; the other operand where one is not a number.
-pub fn maximum_number(x: f32, y: f32) -> f32
-    ensures { λ r. ⌜ r ≡ Operations.maximumNumber x y ⌝ }
-{
-    if x != x {
-        return y;
-    }
-    if y != y {
-        return x;
-    }
-    if precedes(x, y) { y } else { x }
 }
 
 // Rust's `f32::clamp`, with a result for any bounds.

@@ -2,9 +2,9 @@
 use borrow.Author.Tests.{not-true}
 use lib.Ieee.{binary32, eq, ne}
 use Rattle.ieee754.specs.Operations.{precedes}
-use Rattle.ieee754.proofs.operations.Choice.{first-number, second-number, zeros-in-order}
-use Rattle.ieee754.proofs.operations.precedes.Statement.{statement}
-use Rattle.ieee754.proofs.operations.precedes.Tie as tie
+use Rattle.ieee754.proofs.Choice.{first-number, second-number, zeros-in-order}
+use Rattle.ieee754.proofs.min_max.precedes.Statement.{statement}
+use Rattle.ieee754.proofs.min_max.precedes.Tie as tie
 
 returns : tie.Need-returns
 unfolding precedes

@@ -1,0 +1,14 @@
+-- The smaller magnitude, a NaN beside anything: one of the eight ways to choose.
+use borrow.Author.Needs.{needs}
+use lib.Ieee.{binary32}
+use Rattle.ieee754.specs.Operations.{minimumMagnitude, minimum}
+use Rattle.ieee754.proofs.Choice.{nan-rule, by-value, by-magnitude, chosen-by-magnitude}
+use Rattle.ieee754.proofs.min_max.minimum_magnitude.Statement.{statement}
+use Rattle.ieee754.proofs.min_max.minimum_magnitude.Tie as tie
+
+returns : tie.Need-returns
+unfolding minimumMagnitude minimum
+returns c = chosen-by-magnitude nan-rule binary32 by-magnitude by-value _ _ (c .before .precedes-in-magnitude .ensures) (c .or-nan .ensures)
+
+pub minimum-magnitude-spec : {M : Type 1} → statement M
+minimum-magnitude-spec = tie.close (tie.spec (λ c κs. search needs) (λ c κs. search needs) returns)

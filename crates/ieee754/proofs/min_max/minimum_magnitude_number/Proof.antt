@@ -1,0 +1,14 @@
+-- The smaller magnitude, the number beside a NaN: one of the eight ways to choose.
+use borrow.Author.Needs.{needs}
+use lib.Ieee.{binary32}
+use Rattle.ieee754.specs.Operations.{minimumMagnitudeNumber, minimumNumber}
+use Rattle.ieee754.proofs.Choice.{number-rule, by-value, by-magnitude, chosen-by-magnitude}
+use Rattle.ieee754.proofs.min_max.minimum_magnitude_number.Statement.{statement}
+use Rattle.ieee754.proofs.min_max.minimum_magnitude_number.Tie as tie
+
+returns : tie.Need-returns
+unfolding minimumMagnitudeNumber minimumNumber
+returns c = chosen-by-magnitude number-rule binary32 by-magnitude by-value _ _ (c .before .precedes-in-magnitude .ensures) (c .or-number .ensures)
+
+pub minimum-magnitude-number-spec : {M : Type 1} → statement M
+minimum-magnitude-number-spec = tie.close (tie.spec (λ c κs. search needs) (λ c κs. search needs) returns)

@@ -1,0 +1,14 @@
+-- The larger magnitude, the number beside a NaN: one of the eight ways to choose.
+use borrow.Author.Needs.{needs}
+use lib.Ieee.{binary64}
+use Rattle.ieee754.specs.Operations.{maximumMagnitudeNumber, maximumNumber}
+use Rattle.ieee754.proofs.Choice.{number-rule, by-value, by-magnitude, converse, chosen-by-magnitude}
+use Rattle.ieee754.proofs.min_max_f64.maximum_magnitude_number_f64.Statement.{statement}
+use Rattle.ieee754.proofs.min_max_f64.maximum_magnitude_number_f64.Tie as tie
+
+returns : tie.Need-returns
+unfolding maximumMagnitudeNumber maximumNumber
+returns c = chosen-by-magnitude number-rule binary64 (converse by-magnitude) (converse by-value) _ _ (c .before .precedes-in-magnitude .ensures) (c .or-number .ensures)
+
+pub maximum-magnitude-number-f64-spec : {M : Type 1} → statement M
+maximum-magnitude-number-f64-spec = tie.close (tie.spec (λ c κs. search needs) (λ c κs. search needs) returns)

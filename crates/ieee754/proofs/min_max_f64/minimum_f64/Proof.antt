@@ -1,0 +1,14 @@
+-- The smaller value, a NaN beside anything: one of the eight ways to choose.
+use borrow.Author.Needs.{needs}
+use lib.Ieee.{binary64}
+use Rattle.ieee754.specs.Operations.{minimum}
+use Rattle.ieee754.proofs.Choice.{nan-rule, by-value, chosen}
+use Rattle.ieee754.proofs.min_max_f64.minimum_f64.Statement.{statement}
+use Rattle.ieee754.proofs.min_max_f64.minimum_f64.Tie as tie
+
+returns : tie.Need-returns
+unfolding minimum
+returns c = chosen nan-rule binary64 by-value _ _ (c .before .precedes .ensures) (c .or-nan .ensures)
+
+pub minimum-f64-spec : {M : Type 1} → statement M
+minimum-f64-spec = tie.close (tie.spec (λ c κs. search needs) (λ c κs. search needs) returns)

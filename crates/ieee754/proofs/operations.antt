@@ -1,2 +1,0 @@
--- The laws of the choice between two operands.
-mod Choice

@@ -1,0 +1,146 @@
+// The minimum and maximum operations of IEEE 754-2019, 9.6, on `f64`: as on
+// `f32`, line by line.
+ghost use mathlib.Core.Path.{_≡_};
+ghost use mathlib.Core.Bool.{not, cond, _&&_, _||_};
+ghost use lib.Ieee.{binary64, isNan};
+ghost use Rattle.ieee754.specs.Operations as Operations;
+ghost use Rattle.ieee754.specs.Operations.{precedes, smaller, NanWhere};
+
+// Whether x is below y, where -0.0 is below 0.0.
+fn precedes(x: f64, y: f64) -> bool
+    ensures { λ r. ⌜ r ≡ Operations.precedes x y ⌝ }
+{
+    if x < y {
+        return true;
+    }
+    if x != y {
+        return false;
+    }
+    // equal numbers have one pattern, but for the zeros, of which -0.0 has the larger
+    f64::to_bits(y) < f64::to_bits(x)
+}
+
+// x with a positive sign.
+fn abs(x: f64) -> f64
+    ensures { λ r. ⌜ r ≡ Operations.abs x ⌝ }
+{
+    if x != x {
+        return x;
+    }
+    f64::from_bits(f64::to_bits(x) & 0x7fff_ffff_ffff_ffff)
+}
+
+// Whether x has the smaller magnitude, or the same one and is below y.
+fn precedes_in_magnitude(x: f64, y: f64) -> bool
+    ensures { λ r. ⌜ r ≡ (smaller x y || (not (smaller y x) && Operations.precedes x y)) ⌝ }
+{
+    let a: f64 = abs(x);
+    let b: f64 = abs(y);
+    if a < b {
+        return true;
+    }
+    if b < a {
+        return false;
+    }
+    precedes(x, y)
+}
+
+// x; where it is a signaling NaN, a quiet one, which a sum makes of it.
+fn quiet(x: f64) -> f64
+    ensures { λ r. ⌜ r ≡ x ⌝ }
+{
+    if x != x {
+        return x + x;
+    }
+    x
+}
+
+// x if it comes first, else y; a NaN if either is one, and then `first` is false.
+fn or_nan(first: bool, x: f64, y: f64) -> f64
+    ensures { λ r. ⌜ r ≡ cond (isNan x || first) x y ⌝ }
+{
+    if x != x {
+        return quiet(x);
+    }
+    if first {
+        return x;
+    }
+    quiet(y)
+}
+
+// x if it comes first, else y; the number if one is a NaN, and then `first` is false.
+fn or_number(first: bool, x: f64, y: f64) -> f64
+    ensures { λ r. ⌜ r ≡ cond (isNan y || first) x y ⌝ }
+{
+    if y != y {
+        return quiet(x);
+    }
+    if first {
+        return x;
+    }
+    y
+}
+
+// The smaller of two numbers, -0.0 below 0.0. A NaN if either operand is one.
+pub fn minimum_f64(x: f64, y: f64) -> f64
+    ensures { λ r. ⌜ r ≡ Operations.minimum x y ⌝ }
+    ensures { λ r. ⌜ NanWhere binary64 (isNan x || isNan y) r ⌝ }
+{
+    or_nan(precedes(x, y), x, y)
+}
+
+// The smaller of two numbers, -0.0 below 0.0. The number if one operand is a NaN, a NaN if both are.
+pub fn minimum_number_f64(x: f64, y: f64) -> f64
+    ensures { λ r. ⌜ r ≡ Operations.minimumNumber x y ⌝ }
+    ensures { λ r. ⌜ NanWhere binary64 (isNan x && isNan y) r ⌝ }
+{
+    or_number(precedes(x, y), x, y)
+}
+
+// The larger of two numbers, 0.0 above -0.0. A NaN if either operand is one.
+pub fn maximum_f64(x: f64, y: f64) -> f64
+    ensures { λ r. ⌜ r ≡ Operations.maximum x y ⌝ }
+    ensures { λ r. ⌜ NanWhere binary64 (isNan x || isNan y) r ⌝ }
+{
+    or_nan(precedes(y, x), x, y)
+}
+
+// The larger of two numbers, 0.0 above -0.0. The number if one operand is a NaN, a NaN if both are.
+pub fn maximum_number_f64(x: f64, y: f64) -> f64
+    ensures { λ r. ⌜ r ≡ Operations.maximumNumber x y ⌝ }
+    ensures { λ r. ⌜ NanWhere binary64 (isNan x && isNan y) r ⌝ }
+{
+    or_number(precedes(y, x), x, y)
+}
+
+// The operand of smaller magnitude; `minimum_f64` where they are equal or one is a NaN.
+pub fn minimum_magnitude_f64(x: f64, y: f64) -> f64
+    ensures { λ r. ⌜ r ≡ Operations.minimumMagnitude x y ⌝ }
+    ensures { λ r. ⌜ NanWhere binary64 (isNan x || isNan y) r ⌝ }
+{
+    or_nan(precedes_in_magnitude(x, y), x, y)
+}
+
+// The operand of smaller magnitude; `minimum_number_f64` where they are equal or one is a NaN.
+pub fn minimum_magnitude_number_f64(x: f64, y: f64) -> f64
+    ensures { λ r. ⌜ r ≡ Operations.minimumMagnitudeNumber x y ⌝ }
+    ensures { λ r. ⌜ NanWhere binary64 (isNan x && isNan y) r ⌝ }
+{
+    or_number(precedes_in_magnitude(x, y), x, y)
+}
+
+// The operand of larger magnitude; `maximum_f64` where they are equal or one is a NaN.
+pub fn maximum_magnitude_f64(x: f64, y: f64) -> f64
+    ensures { λ r. ⌜ r ≡ Operations.maximumMagnitude x y ⌝ }
+    ensures { λ r. ⌜ NanWhere binary64 (isNan x || isNan y) r ⌝ }
+{
+    or_nan(precedes_in_magnitude(y, x), x, y)
+}
+
+// The operand of larger magnitude; `maximum_number_f64` where they are equal or one is a NaN.
+pub fn maximum_magnitude_number_f64(x: f64, y: f64) -> f64
+    ensures { λ r. ⌜ r ≡ Operations.maximumMagnitudeNumber x y ⌝ }
+    ensures { λ r. ⌜ NanWhere binary64 (isNan x && isNan y) r ⌝ }
+{
+    or_number(precedes_in_magnitude(y, x), x, y)
+}

@@ -4,8 +4,10 @@ mod Choice
 pub mod Equal
 mod Fields
 mod Formats
+pub mod MinMaxLaws
 pub mod NotANumber
 pub mod Numbers
+mod Orders
 pub mod Signs
 mod SmallestUnits
 pub mod Whole

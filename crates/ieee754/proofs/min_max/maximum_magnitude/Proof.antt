@@ -2,7 +2,8 @@
 use borrow.Author.Needs.{needs}
 use lib.Ieee.{binary32}
 use Rattle.ieee754.specs.Operations.{maximumMagnitude, maximum}
-use Rattle.ieee754.proofs.Choice.{nan-rule, by-value, by-magnitude, converse, chosen-by-magnitude}
+use Rattle.ieee754.proofs.Orders.{by-value, by-magnitude, converse}
+use Rattle.ieee754.proofs.Choice.{nan-rule, chosen-by-magnitude}
 use Rattle.ieee754.proofs.min_max.maximum_magnitude.Statement.{statement}
 use Rattle.ieee754.proofs.min_max.maximum_magnitude.Tie as tie
 

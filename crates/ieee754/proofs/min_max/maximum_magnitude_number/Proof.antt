@@ -2,7 +2,8 @@
 use borrow.Author.Needs.{needs}
 use lib.Ieee.{binary32}
 use Rattle.ieee754.specs.Operations.{maximumMagnitudeNumber, maximumNumber}
-use Rattle.ieee754.proofs.Choice.{number-rule, by-value, by-magnitude, converse, chosen-by-magnitude}
+use Rattle.ieee754.proofs.Orders.{by-value, by-magnitude, converse}
+use Rattle.ieee754.proofs.Choice.{number-rule, chosen-by-magnitude}
 use Rattle.ieee754.proofs.min_max.maximum_magnitude_number.Statement.{statement}
 use Rattle.ieee754.proofs.min_max.maximum_magnitude_number.Tie as tie
 

@@ -2,7 +2,8 @@
 use borrow.Author.Needs.{needs}
 use lib.Ieee.{binary64}
 use Rattle.ieee754.specs.Operations.{maximumNumber}
-use Rattle.ieee754.proofs.Choice.{number-rule, by-value, converse, chosen}
+use Rattle.ieee754.proofs.Orders.{by-value, converse}
+use Rattle.ieee754.proofs.Choice.{number-rule, chosen}
 use Rattle.ieee754.proofs.min_max_f64.maximum_number_f64.Statement.{statement}
 use Rattle.ieee754.proofs.min_max_f64.maximum_number_f64.Tie as tie
 

@@ -2,7 +2,8 @@
 use borrow.Author.Needs.{needs}
 use lib.Ieee.{binary64}
 use Rattle.ieee754.specs.Operations.{minimumMagnitudeNumber, minimumNumber}
-use Rattle.ieee754.proofs.Choice.{number-rule, by-value, by-magnitude, chosen-by-magnitude}
+use Rattle.ieee754.proofs.Orders.{by-value, by-magnitude}
+use Rattle.ieee754.proofs.Choice.{number-rule, chosen-by-magnitude}
 use Rattle.ieee754.proofs.min_max_f64.minimum_magnitude_number_f64.Statement.{statement}
 use Rattle.ieee754.proofs.min_max_f64.minimum_magnitude_number_f64.Tie as tie
 

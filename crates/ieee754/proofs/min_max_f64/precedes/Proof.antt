@@ -2,7 +2,7 @@
 use borrow.Author.Tests.{not-true}
 use lib.Ieee.{binary64, eq, ne}
 use Rattle.ieee754.specs.Operations.{precedes}
-use Rattle.ieee754.proofs.Choice.{first-number, second-number, zeros-in-order}
+use Rattle.ieee754.proofs.Orders.{first-number, second-number, zeros-in-order}
 use Rattle.ieee754.proofs.min_max_f64.precedes.Statement.{statement}
 use Rattle.ieee754.proofs.min_max_f64.precedes.Tie as tie
 

@@ -67,7 +67,7 @@ extern "C" {
 #define BECHULLPI_CHOICE(type, first, second) ((type){first, second})
 #endif
 
-BECHULLPI_STATIC_ASSERT(sizeof(float) == 4 && sizeof(bool) == 1 && sizeof(size_t) == 8, "not x86-64");
+BECHULLPI_STATIC_ASSERT(sizeof(float) == 4 && sizeof(double) == 8 && sizeof(bool) == 1 && sizeof(size_t) == 8, "not x86-64");
 
 #define BECHULLPI_STACK_NUMBERS 1024
 #define BECHULLPI_STACK_VOICES 8192
@@ -133,12 +133,6 @@ float bechullpi_ieee754_nearest_f32(uint32_t n);
 
 float bechullpi_ieee754_abs(float x);
 
-// Of a NaN and a number, the number; -0.0 is below 0.0.
-float bechullpi_ieee754_minimum_number(float x, float y);
-
-// Of a NaN and a number, the number; -0.0 is below 0.0.
-float bechullpi_ieee754_maximum_number(float x, float y);
-
 // lo where x is below lo, else hi where x is above hi, else x, a NaN too.
 float bechullpi_ieee754_clamp(float x, float lo, float hi);
 
@@ -174,6 +168,51 @@ float bechullpi_utils_soft_limit(float x);
 float bechullpi_utils_soft_clip(float x);
 
 float bechullpi_utils_sqrt(float x);
+
+// -------------------------------------------------------------------------------------------------------------------------------
+// The minimum and maximum operations of IEEE 754-2019, 9.6, in single and in double precision. Which pattern of a NaN comes back
+// is left open.
+
+// The smaller of two numbers, -0.0 below 0.0. A NaN if either operand is one.
+float bechullpi_ieee754_minimum(float x, float y);
+
+// The smaller of two numbers, -0.0 below 0.0. The number if one operand is a NaN, a NaN if both are.
+float bechullpi_ieee754_minimum_number(float x, float y);
+
+// The larger of two numbers, 0.0 above -0.0. A NaN if either operand is one.
+float bechullpi_ieee754_maximum(float x, float y);
+
+// The larger of two numbers, 0.0 above -0.0. The number if one operand is a NaN, a NaN if both are.
+float bechullpi_ieee754_maximum_number(float x, float y);
+
+// The operand of smaller magnitude; `minimum` where they are equal or one is a NaN.
+float bechullpi_ieee754_minimum_magnitude(float x, float y);
+
+// The operand of smaller magnitude; `minimum_number` where they are equal or one is a NaN.
+float bechullpi_ieee754_minimum_magnitude_number(float x, float y);
+
+// The operand of larger magnitude; `maximum` where they are equal or one is a NaN.
+float bechullpi_ieee754_maximum_magnitude(float x, float y);
+
+// The operand of larger magnitude; `maximum_number` where they are equal or one is a NaN.
+float bechullpi_ieee754_maximum_magnitude_number(float x, float y);
+
+// In double precision the same, and so the next seven.
+double bechullpi_ieee754_minimum_f64(double x, double y);
+
+double bechullpi_ieee754_minimum_number_f64(double x, double y);
+
+double bechullpi_ieee754_maximum_f64(double x, double y);
+
+double bechullpi_ieee754_maximum_number_f64(double x, double y);
+
+double bechullpi_ieee754_minimum_magnitude_f64(double x, double y);
+
+double bechullpi_ieee754_minimum_magnitude_number_f64(double x, double y);
+
+double bechullpi_ieee754_maximum_magnitude_f64(double x, double y);
+
+double bechullpi_ieee754_maximum_magnitude_number_f64(double x, double y);
 
 // -------------------------------------------------------------------------------------------------------------------------------
 // The filters: OnePole and Svf. `Svf::process_mut` does not cross: it is proved equal to `process`.

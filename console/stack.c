@@ -33,10 +33,24 @@ static size_t sheet_bytes;
     CALL(ieee754_truncate_i32, (1.5f)) \
     CALL(ieee754_nearest_f32, (16777217)) \
     CALL(ieee754_abs, (-1.5f)) \
-    CALL(ieee754_minimum_number, (1.5f, 2.5f)) \
-    CALL(ieee754_maximum_number, (1.5f, 2.5f)) \
     CALL(ieee754_clamp, (1.5f, 0.0f, 1.0f)) \
     CALL(ieee754_sqrt, (2.0f)) \
+    CALL(ieee754_minimum, (1.5f, 2.5f)) \
+    CALL(ieee754_minimum_number, (1.5f, 2.5f)) \
+    CALL(ieee754_maximum, (1.5f, 2.5f)) \
+    CALL(ieee754_maximum_number, (1.5f, 2.5f)) \
+    CALL(ieee754_minimum_magnitude, (1.5f, 2.5f)) \
+    CALL(ieee754_minimum_magnitude_number, (1.5f, 2.5f)) \
+    CALL(ieee754_maximum_magnitude, (1.5f, 2.5f)) \
+    CALL(ieee754_maximum_magnitude_number, (1.5f, 2.5f)) \
+    CALL(ieee754_minimum_f64, (1.5, 2.5)) \
+    CALL(ieee754_minimum_number_f64, (1.5, 2.5)) \
+    CALL(ieee754_maximum_f64, (1.5, 2.5)) \
+    CALL(ieee754_maximum_number_f64, (1.5, 2.5)) \
+    CALL(ieee754_minimum_magnitude_f64, (1.5, 2.5)) \
+    CALL(ieee754_minimum_magnitude_number_f64, (1.5, 2.5)) \
+    CALL(ieee754_maximum_magnitude_f64, (1.5, 2.5)) \
+    CALL(ieee754_maximum_magnitude_number_f64, (1.5, 2.5)) \
     CALL(random_get_word, (33)) \
     CALL(random_get_float, (33)) \
     CALL(units_semitones_to_ratio, (7.0f, 0.0f)) \

@@ -2,6 +2,7 @@
 pub mod calls;
 pub mod draws;
 pub mod filters;
+pub mod min_max;
 pub mod noise;
 pub mod numbers;
 pub mod port;

@@ -1,5 +1,5 @@
 //! Holds the port against the published Rust: `oracle record ROWS ANSWERS`, `oracle sheets NAMES FOLDER` or `oracle compare SIZE`.
-use oracle::{draws, filters, noise, numbers, replay, sheets, small, voices};
+use oracle::{draws, filters, min_max, noise, numbers, replay, sheets, small, voices};
 
 fn main() {
     let args: Vec<String> = std::env::args().skip(1).collect();
@@ -17,6 +17,7 @@ fn main() {
 /// SIZE 1 takes some seconds; 1024 has every pattern of 32 bits in it, and a million choices of what has several inputs. Any difference gives the exit status 1.
 fn compare(size: u32) {
     let differ = numbers::compare(size)
+        + min_max::compare(size * 10_000)
         + noise::compare(size)
         + small::compare(size * 1000)
         + filters::compare(size * 1000)

@@ -50,8 +50,8 @@ fn of_several(random: u32) -> u64 {
     let mut any = || f32::from_bits(r.word());
     let words: Vec<[f32; 3]> = (0..random).map(|_| [any(), any(), any()]).collect();
     let of_pairs = || pairs.clone().chain(words.iter().copied());
-    judge("minimum_number", of_pairs(), |[x, y, _]| Some(same(port::bechullpi_ieee754_minimum_number(x, y), minimum(x, y))))
-        + judge("maximum_number", of_pairs(), |[x, y, _]| Some(same(port::bechullpi_ieee754_maximum_number(x, y), maximum(x, y))))
+    judge("minimum_number, f32::min", of_pairs(), |[x, y, _]| Some(same(port::bechullpi_ieee754_minimum_number(x, y), minimum(x, y))))
+        + judge("maximum_number, f32::max", of_pairs(), |[x, y, _]| Some(same(port::bechullpi_ieee754_maximum_number(x, y), maximum(x, y))))
         + judge("clamp", triples.chain(words.iter().copied().map(in_order)), |[x, lo, hi]| {
             (lo <= hi).then(|| same(port::bechullpi_ieee754_clamp(x, lo, hi), x.clamp(lo, hi)))
         })

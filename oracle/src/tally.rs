@@ -67,8 +67,12 @@ const EDGES: [u32; 32] = [
     0x4f00_0000, 0x4f80_0000, 0x5f00_0000, 0x7f7f_ffff, 0x7f80_0000, 0x7f80_0001, 0x7fc0_0000, 0x7fff_ffff,
 ];
 
+pub fn edge_patterns() -> impl Iterator<Item = u32> {
+    EDGES.into_iter()
+}
+
 pub fn edges() -> Vec<f32> {
-    EDGES.iter().flat_map(|bits| [*bits, bits | 0x8000_0000]).map(f32::from_bits).collect()
+    edge_patterns().flat_map(|bits| [bits, bits | 0x8000_0000]).map(f32::from_bits).collect()
 }
 
 /// Any float: a quarter at the edges, a quarter of any pattern, and the others of a size that a signal has.

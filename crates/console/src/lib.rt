@@ -4,6 +4,7 @@ mod bass; // bass.rt: AnalogBassDrum
 mod enums; // enums.rt: the choices that cross as bools
 mod filters; // filters.rt: OnePole and Svf
 mod hi_hat; // hi_hat.rt: Hihat and SquareNoise
+mod min_max; // min_max.rt: the minimum and maximum operations, in both widths
 mod numbers; // numbers.rt: conversions, operations, noise, pitches and the small functions
 mod sheet; // sheet.rt: cue sheets
 mod snare; // snare.rt: AnalogSnareDrum

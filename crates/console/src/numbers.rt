@@ -50,22 +50,6 @@ pub extern "C" fn bechullpi_ieee754_abs(x: f32) -> f32
     ieee754::abs(x)
 }
 
-// Of a NaN and a number, the number; -0.0 is below 0.0.
-#[no_mangle]
-pub extern "C" fn bechullpi_ieee754_minimum_number(x: f32, y: f32) -> f32
-    ensures { λ r. ⌜ r ≡ Operations.minimumNumber x y ⌝ }
-{
-    ieee754::minimum_number(x, y)
-}
-
-// Of a NaN and a number, the number; -0.0 is below 0.0.
-#[no_mangle]
-pub extern "C" fn bechullpi_ieee754_maximum_number(x: f32, y: f32) -> f32
-    ensures { λ r. ⌜ r ≡ Operations.maximumNumber x y ⌝ }
-{
-    ieee754::maximum_number(x, y)
-}
-
 // lo where x is below lo, else hi where x is above hi, else x, a NaN too.
 #[no_mangle]
 pub extern "C" fn bechullpi_ieee754_clamp(x: f32, lo: f32, hi: f32) -> f32

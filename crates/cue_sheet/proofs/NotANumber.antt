@@ -21,7 +21,7 @@ passed-number q none bits h = go (nanBits binary32 bits) refl
   where
     go : (t : Bool) → nanBits binary32 bits ≡ t → T (not t)
     go false e = tt
-    go true e = absurd (false≢true (sym none ∙ rw (nan-of bits e) at h))
+    go true e = absurd (false≢true (sym none ∙ rw (nan-of binary32 bits e) at h))
 
 pub unit-number : (bits : ℕ) → isUnit (ofBits binary32 bits) ≡ true → T (not (nanBits binary32 bits))
 unit-number = passed-number isUnit nan-unit

@@ -2,9 +2,9 @@
 use mathlib.Core.Path.{_≡_, refl}
 use Prim.Native.Nat.{ℕ}
 use lib.ListN.{getD}
-use lib.Ieee.{nan, binary32, ofBits, toBits, ofInt, round, add, sub, mul, div, neg, le, lt, isNan, toUnsigned}
+use lib.Ieee.{nan, binary32, ofBits, toBits, ofInt, round, add, sub, mul, div, neg, le, lt, eq, isNan, toUnsigned}
 use Rattle.ieee754.specs.Single.{_⊖_, decimal}
-use Rattle.ieee754.specs.Operations.{minimumNumber}
+use Rattle.ieee754.specs.Operations.{precedes, choose, theNumber, minimumNumber}
 use Rattle.ieee754.specs.Root.{sqrt}
 use Rattle.block.specs.Block.{after}
 use Rattle.random.specs.Random.{getWord, getFloat}
@@ -80,7 +80,7 @@ unfolding softClip softLimit round add mul div neg lt
 soft-clip-3 = refl
 
 minimum-nan : minimumNumber nan (decimal 5 1) ≡ decimal 5 1
-unfolding minimumNumber isNan round
+unfolding minimumNumber choose theNumber precedes lt eq isNan round
 minimum-nan = refl
 
 -- square noise from phases of 0 at f0 = 0.25: how many phases are high after one, two and three samples

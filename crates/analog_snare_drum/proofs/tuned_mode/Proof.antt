@@ -8,4 +8,4 @@ use Rattle.analog_snare_drum.proofs.tuned_mode.Tie as tie
 pub tuned-mode-spec : {M : Type 1} → statement M
 unfolding tunedMode round ofBits
 tuned-mode-spec =
-    tie.close (tie.spec (λ c κs. search needs) (λ c κs. search needs) (λ c. rw (c .set-f-q .ensures, c .before .minimum-number .ensures)))
+    tie.close (tie.spec (λ c κs. search needs) (λ c κs. search needs) (λ c. rw (c .set-f-q .ensures, c .before .minimum-number .ensures .0)))

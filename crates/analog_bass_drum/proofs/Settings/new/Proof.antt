@@ -14,7 +14,7 @@ returns c =
     let at-decay = at-tone .before .before in
     let at-start = at-decay .before .before in
     let knobs = at-start .args in
-    rw (c .minimum-number .ensures, at-tone .unwrap-or2 .ensures, at-tone .before .semitones-to-ratio2 .ensures .exact)
+    rw (c .minimum-number .ensures .0, at-tone .unwrap-or2 .ensures, at-tone .before .semitones-to-ratio2 .ensures .exact)
     (rw (knob-ratio 108 (omega arith) (knobs .tone) _ (at-start .pre .0), at-decay .unwrap-or .ensures)
     (rw (at-decay .before .semitones-to-ratio .ensures .exact, knob-ratio 80 (omega arith) (knobs .decay) _ (at-start .pre .1))))
 

@@ -35,11 +35,8 @@ module _ (x y : Float) (n : ne x y ≡ false) where
   unfolding ne
   equals = not-false (eq x y) n
 
-  pub first-number : T (not (isNan x))
-  first-number = equal-numbers x y equals .0
-
-  pub second-number : T (not (isNan y))
-  second-number = equal-numbers x y equals .1
+  pub both-numbers : T (not (isNan x)) × T (not (isNan y))
+  both-numbers = equal-numbers x y equals
 
   pub zeros-in-order : (f : Format) → T (fits f x) → T (fits f y) → lt x y ≡ false → ltb (toBits f y) (toBits f x) ≡ precedes x y
   unfolding precedes

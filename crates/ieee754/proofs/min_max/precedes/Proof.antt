@@ -2,7 +2,7 @@
 use borrow.Author.Tests.{not-true}
 use lib.Ieee.{binary32, eq, ne}
 use Rattle.ieee754.specs.Operations.{precedes}
-use Rattle.ieee754.proofs.Orders.{first-number, second-number, zeros-in-order}
+use Rattle.ieee754.proofs.Orders.{both-numbers, zeros-in-order}
 use Rattle.ieee754.proofs.min_max.precedes.Statement.{statement}
 use Rattle.ieee754.proofs.min_max.precedes.Tie as tie
 
@@ -17,10 +17,10 @@ returns-2 c =
     simp (c .before .if1 .left, not-true (eq (a .x) (a .y)) (c .if2 .taken))
 
 float-to-bits-result : tie.Need-float-to-bits-result
-float-to-bits-result c = second-number _ _ (c .if2 .left)
+float-to-bits-result c = search (both-numbers _ _ (c .if2 .left))
 
 float-to-bits-result-2 : tie.Need-float-to-bits-result-2
-float-to-bits-result-2 c = first-number _ _ (c .if2 .left)
+float-to-bits-result-2 c = search (both-numbers _ _ (c .if2 .left))
 
 returns-3 : tie.Need-returns-3
 returns-3 c =

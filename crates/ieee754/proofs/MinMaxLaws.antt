@@ -1,5 +1,5 @@
 -- What the eight minimum and maximum operations have in common, in either format: a choice is lawful if what it leaves is.
-use mathlib.Core.Path.{_≡_, refl, sym, ap, _∙_}
+use mathlib.Core.Path.{_≡_, refl, sym, _∙_}
 use mathlib.Core.Bool.{Bool, true, false, cond, _||_, true≢false}
 use mathlib.Core.Logic.{_⊎_, inl, inr}
 use lib.Dec.{T}
@@ -42,7 +42,7 @@ module _ {f : Format} {before : Float → Float → Bool} {rest : Float → Floa
       either x y false true P Q h = refl
       either x y false false P Q h = h refl refl
 
--- ---- what the two rules for NaNs leave, and what an operation leaves to its magnitude's form
+-- ---- what is left by the two rules for NaNs
 
 module _ (f : Format) where
   nan-rest : Rest f precedes eitherNan
@@ -94,27 +94,26 @@ module _ (f : Format) where
 converse-rest : {f : Format} {before : Float → Float → Bool} {rest : Float → Float → Float} → Rest f before rest → Rest f (λ x y. before y x) rest
 converse-rest r = record { operand = r .operand; idempotent = r .idempotent; commutative = λ x y F G h g. r .commutative x y F G g h }
 
-whole : {f : Format} {before : Float → Float → Bool} {zero : Float} {op : Float → Float → Float} → Laws f zero op → Rest f before op
-whole l = record { operand = l .operand; idempotent = l .idempotent; commutative = λ x y F G h g. l .commutative x y F G }
+-- what a magnitude's form leaves is an operation
+operation : {f : Format} {before : Float → Float → Bool} {zero : Float} {op : Float → Float → Float} → Laws f zero op → Rest f before op
+operation l = record { operand = l .operand; idempotent = l .idempotent; commutative = λ x y F G h g. l .commutative x y F G }
 
 -- ---- the eight
 
 pub each-lawful : (f : Format) → EachLawful f
 unfolding Operations.minimum Operations.minimumNumber Operations.maximum Operations.maximumNumber Operations.minimumMagnitude Operations.minimumMagnitudeNumber Operations.maximumMagnitude Operations.maximumMagnitudeNumber choose eitherNan theNumber precedes smaller lt eq isNan isSignMinus abs
 each-lawful f =
-    let down = by-value in
-    let up = converse by-value in
-    let minimum = lawful down (nan-rest f) minusZero refl in
-    let minimumNumber = lawful down (number-rest f) minusZero refl in
-    let maximum = lawful up (converse-rest (nan-rest f)) plusZero refl in
-    let maximumNumber = lawful up (converse-rest (number-rest f)) plusZero refl in
+    let minimum = lawful by-value (nan-rest f) minusZero refl in
+    let minimumNumber = lawful by-value (number-rest f) minusZero refl in
+    let maximum = lawful (converse by-value) (converse-rest (nan-rest f)) plusZero refl in
+    let maximumNumber = lawful (converse by-value) (converse-rest (number-rest f)) plusZero refl in
     record {
       minimum = minimum;
       minimumNumber = minimumNumber;
       maximum = maximum;
       maximumNumber = maximumNumber;
-      minimumMagnitude = lawful by-magnitude (whole minimum) minusZero refl;
-      minimumMagnitudeNumber = lawful by-magnitude (whole minimumNumber) minusZero refl;
-      maximumMagnitude = lawful (converse by-magnitude) (whole maximum) plusZero refl;
-      maximumMagnitudeNumber = lawful (converse by-magnitude) (whole maximumNumber) plusZero refl;
+      minimumMagnitude = lawful by-magnitude (operation minimum) minusZero refl;
+      minimumMagnitudeNumber = lawful by-magnitude (operation minimumNumber) minusZero refl;
+      maximumMagnitude = lawful (converse by-magnitude) (operation maximum) plusZero refl;
+      maximumMagnitudeNumber = lawful (converse by-magnitude) (operation maximumNumber) plusZero refl;
     }

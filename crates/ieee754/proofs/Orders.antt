@@ -1,12 +1,12 @@
 -- The orders of IEEE 754-2019, 9.6, by value and by magnitude, in either format.
-use borrow.Author.Tests.{not-false, lt-ltb, le-ltb, leb-true, leb-false, ltb-true, ltb-false, eq-eqb}
+use borrow.Author.Tests.{not-true, not-false, lt-ltb, le-ltb, leb-true, leb-false, ltb-true, ltb-false}
 use mathlib.Core.Path.{_≡_, refl, sym, _∙_}
 use mathlib.Core.Bool.{Bool, true, false, not, _&&_, _||_, true≢false, false≢true}
 use Prim.Native.Nat.{ℕ, _+_, _*_, _<_}
 use native.Mathlib.Nat.{le-of-eq, le-of-lt, lt-of-lt-of-le, le-antisymm}
 use native.Mathlib.Decide.{decLt}
 use native.Mathlib.Omega.{arith}
-use lib.Dec.{T, leb, ltb, eqb}
+use lib.Dec.{T, leb, ltb}
 use lib.Ieee.{Float, nan, inf, fin, Format, fits, isNan, lt, eq, ne, toBits, top, below, level, up, down}
 use Rattle.ieee754.specs.Operations.{isSignMinus, abs, precedes, smaller}
 use Rattle.ieee754.proofs.Equal.{equal-numbers, equal-bits}
@@ -30,17 +30,25 @@ module _ (f : Format) (x y : Float) (F : T (fits f x)) (G : T (fits f y)) (h : e
   by-signs false false p q = le-ltb _ _ (le-of-eq (equal-bits f x y h (p ∙ sym q)))
 
 -- `precedes` by the tests that a program makes
-module _ (x y : Float) (n : ne x y ≡ false) where
-  equals : eq x y ≡ true
-  unfolding ne
-  equals = not-false (eq x y) n
-
-  pub both-numbers : T (not (isNan x)) × T (not (isNan y))
-  both-numbers = equal-numbers x y equals
-
-  pub zeros-in-order : (f : Format) → T (fits f x) → T (fits f y) → lt x y ≡ false → ltb (toBits f y) (toBits f x) ≡ precedes x y
+module _ (x y : Float) where
+  pub less : lt x y ≡ true → true ≡ precedes x y
   unfolding precedes
-  zeros-in-order f F G l = let e = equals in simp (l, e) (by-signs f x y F G e (isSignMinus x) (isSignMinus y) refl refl)
+  less l = simp l
+
+  pub unequal : lt x y ≡ false → ne x y ≡ true → false ≡ precedes x y
+  unfolding precedes ne
+  unequal l n = let e = not-true (eq x y) n in simp (l, e)
+
+  equal : ne x y ≡ false → eq x y ≡ true
+  unfolding ne
+  equal = not-false (eq x y)
+
+  pub both-numbers : ne x y ≡ false → T (not (isNan x)) × T (not (isNan y))
+  both-numbers n = equal-numbers x y (equal n)
+
+  pub zeros-in-order : (f : Format) → T (fits f x) → T (fits f y) → lt x y ≡ false → ne x y ≡ false → ltb (toBits f y) (toBits f x) ≡ precedes x y
+  unfolding precedes
+  zeros-in-order f F G l n = let e = equal n in simp (l, e) (by-signs f x y F G e (isSignMinus x) (isSignMinus y) refl refl)
 
 -- ---- a sign and a magnitude: -a comes before b, and before -b where a is larger
 

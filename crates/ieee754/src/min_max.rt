@@ -1,10 +1,11 @@
-// The minimum and maximum operations of IEEE 754-2019, 9.6, on `f32`. A returned NaN
-// is a quiet one: the contracts leave its pattern open.
+// The minimum and maximum operations of IEEE 754-2019, 9.6, on `f32`. A NaN that
+// comes back is a quiet one, as 6.2 has it. No contract sees that: the logic has one NaN, and its
+// pattern is left open.
 ghost use mathlib.Core.Path.{_≡_};
 ghost use mathlib.Core.Bool.{not, cond, _&&_, _||_};
 ghost use lib.Ieee.{binary32, isNan};
 ghost use Rattle.ieee754.specs.Operations as Operations;
-ghost use Rattle.ieee754.specs.Operations.{precedes, smaller, NanWhere};
+ghost use Rattle.ieee754.specs.Operations.{smaller, NanWhere};
 use crate::operations::abs;
 
 // Whether x is below y, where -0.0 is below 0.0.
@@ -46,7 +47,7 @@ fn quiet(x: f32) -> f32
     x
 }
 
-// x if it comes first, else y; a NaN if either is one, and then `first` is false.
+// x if it comes first, else y. Beside a NaN neither comes first, and the result is a NaN.
 fn or_nan(first: bool, x: f32, y: f32) -> f32
     ensures { λ r. ⌜ r ≡ cond (isNan x || first) x y ⌝ }
 {
@@ -59,7 +60,7 @@ fn or_nan(first: bool, x: f32, y: f32) -> f32
     quiet(y)
 }
 
-// x if it comes first, else y; the number if one is a NaN, and then `first` is false.
+// x if it comes first, else y. Beside a NaN neither comes first, and the result is the other operand.
 fn or_number(first: bool, x: f32, y: f32) -> f32
     ensures { λ r. ⌜ r ≡ cond (isNan y || first) x y ⌝ }
 {

@@ -4,7 +4,7 @@ ghost use mathlib.Core.Path.{_≡_};
 ghost use mathlib.Core.Bool.{not, cond, _&&_, _||_};
 ghost use lib.Ieee.{binary64, isNan};
 ghost use Rattle.ieee754.specs.Operations as Operations;
-ghost use Rattle.ieee754.specs.Operations.{precedes, smaller, NanWhere};
+ghost use Rattle.ieee754.specs.Operations.{smaller, NanWhere};
 
 // Whether x is below y, where -0.0 is below 0.0.
 fn precedes(x: f64, y: f64) -> bool
@@ -55,7 +55,7 @@ fn quiet(x: f64) -> f64
     x
 }
 
-// x if it comes first, else y; a NaN if either is one, and then `first` is false.
+// x if it comes first, else y. Beside a NaN neither comes first, and the result is a NaN.
 fn or_nan(first: bool, x: f64, y: f64) -> f64
     ensures { λ r. ⌜ r ≡ cond (isNan x || first) x y ⌝ }
 {
@@ -68,7 +68,7 @@ fn or_nan(first: bool, x: f64, y: f64) -> f64
     quiet(y)
 }
 
-// x if it comes first, else y; the number if one is a NaN, and then `first` is false.
+// x if it comes first, else y. Beside a NaN neither comes first, and the result is the other operand.
 fn or_number(first: bool, x: f64, y: f64) -> f64
     ensures { λ r. ⌜ r ≡ cond (isNan y || first) x y ⌝ }
 {

@@ -197,7 +197,7 @@ float bechullpi_ieee754_maximum_magnitude(float x, float y);
 // The operand of larger magnitude; `maximum_number` where they are equal or one is a NaN.
 float bechullpi_ieee754_maximum_magnitude_number(float x, float y);
 
-// In double precision the same, and so the next seven.
+// The same in double precision, and so the next seven.
 double bechullpi_ieee754_minimum_f64(double x, double y);
 
 double bechullpi_ieee754_minimum_number_f64(double x, double y);

@@ -77,7 +77,7 @@ pub extern "C" fn bechullpi_ieee754_maximum_magnitude_number(x: f32, y: f32) -> 
     ieee754::maximum_magnitude_number(x, y)
 }
 
-// In double precision the same, and so the next seven.
+// The same in double precision, and so the next seven.
 #[no_mangle]
 pub extern "C" fn bechullpi_ieee754_minimum_f64(x: f64, y: f64) -> f64
     ensures { λ r. ⌜ r ≡ Operations.minimum x y ⌝ }

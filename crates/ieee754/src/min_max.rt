@@ -1,6 +1,5 @@
-// The minimum and maximum operations of IEEE 754-2019, 9.6, on `f32`. A NaN that
-// comes back is a quiet one, as 6.2 has it. No contract sees that: the logic has one NaN, and its
-// pattern is left open.
+// The minimum and maximum operations of IEEE 754-2019, 9.6, on `f32`. A NaN that comes back is a
+// quiet one, as 6.2 has it. No contract sees that: the logic has one NaN, and its pattern is open.
 ghost use mathlib.Core.Path.{_≡_};
 ghost use mathlib.Core.Bool.{not, cond, _&&_, _||_};
 ghost use lib.Ieee.{binary32, isNan};

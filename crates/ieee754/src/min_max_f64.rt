@@ -1,5 +1,4 @@
-// The minimum and maximum operations of IEEE 754-2019, 9.6, on `f64`: as on
-// `f32`, line by line.
+// The minimum and maximum operations of IEEE 754-2019, 9.6, on `f64`: those on `f32`, line by line.
 ghost use mathlib.Core.Path.{_≡_};
 ghost use mathlib.Core.Bool.{not, cond, _&&_, _||_};
 ghost use lib.Ieee.{binary64, isNan};

@@ -8,7 +8,7 @@ use Rattle.ieee754.specs.Operations as Operations
 use Rattle.ieee754.specs.Operations.{abs, isSignMinus, precedes, smaller, choose, eitherNan, theNumber}
 use Rattle.ieee754.specs.MinMaxLaws.{Laws, EachLawful, minusZero, plusZero}
 use Rattle.ieee754.proofs.Orders.{Order, by-value, by-magnitude, converse, same-value}
-use Rattle.ieee754.proofs.Choice.{only-nan}
+use Rattle.ieee754.proofs.Choice.{only-nan, either-by}
 
 -- what is left where neither operand comes first
 record Rest (f : Format) (before : Float → Float → Bool) (rest : Float → Float → Float) : Type 0 where
@@ -44,52 +44,41 @@ module _ {f : Format} {before : Float → Float → Bool} {rest : Float → Floa
 
 -- ---- what is left by the two rules for NaNs
 
-module _ (f : Format) where
-  nan-rest : Rest f precedes eitherNan
-  unfolding eitherNan
-  nan-rest = record {
-    operand = λ x y. one-of x y (isNan x) (isNan y) refl refl;
-    idempotent = λ x. itself x (isNan x) refl;
-    commutative = λ x y F G h g. either x y (isNan x) (isNan y) (λ a b. same-value f x y F G a b h g) refl refl;
+module _ (f : Format) (rest : Float → Float → Float) (takes : Float → Float → Bool) (by : (x y : Float) → rest x y ≡ cond (takes x y) x y) where
+  settled : ((x y : Float) → (isNan x ≡ false → isNan y ≡ false → x ≡ y) → rest x y ≡ rest y x) → Rest f precedes rest
+  settled swapped = record {
+    operand = λ x y. rw (by x y) (one-of x y (takes x y));
+    idempotent = λ x. by x x ∙ itself x (takes x x);
+    commutative = λ x y F G h g. swapped x y (λ a b. same-value f x y F G a b h g);
   }
     where
-      one-of : (x y : Float) (a b : Bool) → isNan x ≡ a → isNan y ≡ b → let c = cond (a || b) nan y in (c ≡ x) ⊎ (c ≡ y)
-      one-of x y true b A B = inl (sym (only-nan x A))
-      one-of x y false true A B = inr (sym (only-nan y B))
-      one-of x y false false A B = inr refl
-
-      itself : (x : Float) (a : Bool) → isNan x ≡ a → cond (a || a) nan x ≡ x
-      itself x true A = sym (only-nan x A)
-      itself x false A = refl
-
-      either : (x y : Float) (a b : Bool) → (isNan x ≡ false → isNan y ≡ false → x ≡ y) → isNan x ≡ a → isNan y ≡ b
-          → cond (a || b) nan y ≡ cond (b || a) nan x
-      either x y true true e A B = refl
-      either x y true false e A B = refl
-      either x y false true e A B = refl
-      either x y false false e A B = sym (e A B)
-
-  number-rest : Rest f precedes theNumber
-  unfolding theNumber
-  number-rest = record {
-    operand = λ x y. one-of x y (isNan y);
-    idempotent = λ x. itself x (isNan x);
-    commutative = λ x y F G h g. either x y (isNan x) (isNan y) (λ a b. same-value f x y F G a b h g) refl refl;
-  }
-    where
-      one-of : (x y : Float) (b : Bool) → let c = cond b x y in (c ≡ x) ⊎ (c ≡ y)
+      one-of : (x y : Float) (t : Bool) → let c = cond t x y in (c ≡ x) ⊎ (c ≡ y)
       one-of x y true = inl refl
       one-of x y false = inr refl
 
-      itself : (x : Float) (a : Bool) → cond a x x ≡ x
+      itself : (x : Float) (t : Bool) → cond t x x ≡ x
       itself x true = refl
       itself x false = refl
 
-      either : (x y : Float) (a b : Bool) → (isNan x ≡ false → isNan y ≡ false → x ≡ y) → isNan x ≡ a → isNan y ≡ b → cond b x y ≡ cond a y x
-      either x y true true e A B = only-nan x A ∙ sym (only-nan y B)
-      either x y true false e A B = refl
-      either x y false true e A B = refl
-      either x y false false e A B = sym (e A B)
+nan-rest : (f : Format) → Rest f precedes eitherNan
+unfolding eitherNan
+nan-rest f = settled f eitherNan (λ x y. isNan x) either-by (λ x y e. go x y (isNan x) (isNan y) e refl refl)
+  where
+    go : (x y : Float) (a b : Bool) → (isNan x ≡ false → isNan y ≡ false → x ≡ y) → isNan x ≡ a → isNan y ≡ b → cond (a || b) nan y ≡ cond (b || a) nan x
+    go x y true true e A B = refl
+    go x y true false e A B = refl
+    go x y false true e A B = refl
+    go x y false false e A B = sym (e A B)
+
+number-rest : (f : Format) → Rest f precedes theNumber
+unfolding theNumber
+number-rest f = settled f theNumber (λ x y. isNan y) (λ x y. refl) (λ x y e. go x y (isNan x) (isNan y) e refl refl)
+  where
+    go : (x y : Float) (a b : Bool) → (isNan x ≡ false → isNan y ≡ false → x ≡ y) → isNan x ≡ a → isNan y ≡ b → cond b x y ≡ cond a y x
+    go x y true true e A B = only-nan x A ∙ sym (only-nan y B)
+    go x y true false e A B = refl
+    go x y false true e A B = refl
+    go x y false false e A B = sym (e A B)
 
 converse-rest : {f : Format} {before : Float → Float → Bool} {rest : Float → Float → Float} → Rest f before rest → Rest f (λ x y. before y x) rest
 converse-rest r = record { operand = r .operand; idempotent = r .idempotent; commutative = λ x y F G h g. r .commutative x y F G g h }

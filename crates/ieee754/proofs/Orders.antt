@@ -122,13 +122,13 @@ by-value = record { numbers = go; one-way = back }
     back (fin s m e) (inf false) h = refl
     back (fin s m e) (fin t n d) h = first-one-way s t (m * up e * down d) (n * up d * down e) h
 
-or-left : (p q : Bool) → (p || q) ≡ false → p ≡ false
-or-left true q h = absurd (true≢false h)
-or-left false q h = refl
+pub neither : (p q : Bool) → (p || q) ≡ false → (p ≡ false) × (q ≡ false)
+neither true q h = absurd (true≢false h)
+neither false q h = (refl, h)
 
 pub by-magnitude : Order smaller
 unfolding precedes smaller
-by-magnitude = record { numbers = go; one-way = λ x y h. or-left _ _ (by-value .one-way (abs x) (abs y) (rw h)) }
+by-magnitude = record { numbers = go; one-way = λ x y h. neither _ _ (by-value .one-way (abs x) (abs y) (rw h)) .0 }
   where
     go : (x y : Float) → smaller x y ≡ true → (isNan x ≡ false) × (isNan y ≡ false)
     go x y h = let n = by-value .numbers (abs x) (abs y) (rw h) in (sym (abs-number x) ∙ n .0, sym (abs-number y) ∙ n .1)

@@ -1,7 +1,7 @@
 // The minimum and maximum operations of IEEE 754-2019, 9.6, on `f32`. A NaN that comes back is a
 // quiet one, as 6.2 has it. No contract sees that: the logic has one NaN, and its pattern is open.
 ghost use mathlib.Core.Path.{_≡_};
-ghost use mathlib.Core.Bool.{not, cond, _&&_, _||_};
+ghost use mathlib.Core.Bool.{not, _&&_, _||_};
 ghost use lib.Ieee.{binary32, isNan};
 ghost use Rattle.ieee754.specs.Operations as Operations;
 ghost use Rattle.ieee754.specs.Operations.{smaller, NanWhere};
@@ -46,28 +46,32 @@ fn quiet(x: f32) -> f32
     x
 }
 
-// x if it comes first, else y. Beside a NaN neither comes first, and the result is a NaN.
-fn or_nan(first: bool, x: f32, y: f32) -> f32
-    ensures { λ r. ⌜ r ≡ cond (isNan x || first) x y ⌝ }
+// Whether an operand is a NaN, so that neither is below the other.
+fn unordered(x: f32, y: f32) -> bool
+    ensures { λ r. ⌜ r ≡ (isNan x || isNan y) ⌝ }
+{
+    if x != x {
+        return true;
+    }
+    y != y
+}
+
+// What is left of unordered operands: a NaN.
+fn either_nan(x: f32, y: f32) -> f32
+    ensures { λ r. ⌜ r ≡ Operations.eitherNan x y ⌝ }
 {
     if x != x {
         return quiet(x);
     }
-    if first {
-        return x;
-    }
     quiet(y)
 }
 
-// x if it comes first, else y. Beside a NaN neither comes first, and the result is the other operand.
-fn or_number(first: bool, x: f32, y: f32) -> f32
-    ensures { λ r. ⌜ r ≡ cond (isNan y || first) x y ⌝ }
+// What is left of unordered operands: the number, if one of them is one.
+fn the_number(x: f32, y: f32) -> f32
+    ensures { λ r. ⌜ r ≡ Operations.theNumber x y ⌝ }
 {
     if y != y {
         return quiet(x);
-    }
-    if first {
-        return x;
     }
     y
 }
@@ -77,7 +81,10 @@ pub fn minimum(x: f32, y: f32) -> f32
     ensures { λ r. ⌜ r ≡ Operations.minimum x y ⌝ }
     ensures { λ r. ⌜ NanWhere binary32 (isNan x || isNan y) r ⌝ }
 {
-    or_nan(precedes(x, y), x, y)
+    if unordered(x, y) {
+        return either_nan(x, y);
+    }
+    if precedes(x, y) { x } else { y }
 }
 
 // The smaller of two numbers, -0.0 below 0.0. The number if one operand is a NaN, a NaN if both are.
@@ -85,7 +92,10 @@ pub fn minimum_number(x: f32, y: f32) -> f32
     ensures { λ r. ⌜ r ≡ Operations.minimumNumber x y ⌝ }
     ensures { λ r. ⌜ NanWhere binary32 (isNan x && isNan y) r ⌝ }
 {
-    or_number(precedes(x, y), x, y)
+    if unordered(x, y) {
+        return the_number(x, y);
+    }
+    if precedes(x, y) { x } else { y }
 }
 
 // The larger of two numbers, 0.0 above -0.0. A NaN if either operand is one.
@@ -93,7 +103,10 @@ pub fn maximum(x: f32, y: f32) -> f32
     ensures { λ r. ⌜ r ≡ Operations.maximum x y ⌝ }
     ensures { λ r. ⌜ NanWhere binary32 (isNan x || isNan y) r ⌝ }
 {
-    or_nan(precedes(y, x), x, y)
+    if unordered(x, y) {
+        return either_nan(x, y);
+    }
+    if precedes(y, x) { x } else { y }
 }
 
 // The larger of two numbers, 0.0 above -0.0. The number if one operand is a NaN, a NaN if both are.
@@ -101,7 +114,10 @@ pub fn maximum_number(x: f32, y: f32) -> f32
     ensures { λ r. ⌜ r ≡ Operations.maximumNumber x y ⌝ }
     ensures { λ r. ⌜ NanWhere binary32 (isNan x && isNan y) r ⌝ }
 {
-    or_number(precedes(y, x), x, y)
+    if unordered(x, y) {
+        return the_number(x, y);
+    }
+    if precedes(y, x) { x } else { y }
 }
 
 // The operand of smaller magnitude; `minimum` where they are equal or one is a NaN.
@@ -109,7 +125,10 @@ pub fn minimum_magnitude(x: f32, y: f32) -> f32
     ensures { λ r. ⌜ r ≡ Operations.minimumMagnitude x y ⌝ }
     ensures { λ r. ⌜ NanWhere binary32 (isNan x || isNan y) r ⌝ }
 {
-    or_nan(precedes_in_magnitude(x, y), x, y)
+    if unordered(x, y) {
+        return either_nan(x, y);
+    }
+    if precedes_in_magnitude(x, y) { x } else { y }
 }
 
 // The operand of smaller magnitude; `minimum_number` where they are equal or one is a NaN.
@@ -117,7 +136,10 @@ pub fn minimum_magnitude_number(x: f32, y: f32) -> f32
     ensures { λ r. ⌜ r ≡ Operations.minimumMagnitudeNumber x y ⌝ }
     ensures { λ r. ⌜ NanWhere binary32 (isNan x && isNan y) r ⌝ }
 {
-    or_number(precedes_in_magnitude(x, y), x, y)
+    if unordered(x, y) {
+        return the_number(x, y);
+    }
+    if precedes_in_magnitude(x, y) { x } else { y }
 }
 
 // The operand of larger magnitude; `maximum` where they are equal or one is a NaN.
@@ -125,7 +147,10 @@ pub fn maximum_magnitude(x: f32, y: f32) -> f32
     ensures { λ r. ⌜ r ≡ Operations.maximumMagnitude x y ⌝ }
     ensures { λ r. ⌜ NanWhere binary32 (isNan x || isNan y) r ⌝ }
 {
-    or_nan(precedes_in_magnitude(y, x), x, y)
+    if unordered(x, y) {
+        return either_nan(x, y);
+    }
+    if precedes_in_magnitude(y, x) { x } else { y }
 }
 
 // The operand of larger magnitude; `maximum_number` where they are equal or one is a NaN.
@@ -133,5 +158,8 @@ pub fn maximum_magnitude_number(x: f32, y: f32) -> f32
     ensures { λ r. ⌜ r ≡ Operations.maximumMagnitudeNumber x y ⌝ }
     ensures { λ r. ⌜ NanWhere binary32 (isNan x && isNan y) r ⌝ }
 {
-    or_number(precedes_in_magnitude(y, x), x, y)
+    if unordered(x, y) {
+        return the_number(x, y);
+    }
+    if precedes_in_magnitude(y, x) { x } else { y }
 }

@@ -1,15 +1,20 @@
--- The smaller value, the number beside a NaN: one of the eight ways to choose.
+-- The smaller value, and the number where an operand is a NaN.
 use borrow.Author.Needs.{needs}
 use lib.Ieee.{binary32}
-use Rattle.ieee754.specs.Operations.{minimumNumber}
-use Rattle.ieee754.proofs.Orders.{by-value}
-use Rattle.ieee754.proofs.Choice.{number-rule, chosen}
+use Rattle.ieee754.proofs.Choice.{minimum-number, beside-nan, takes-first, takes-second}
 use Rattle.ieee754.proofs.min_max.minimum_number.Statement.{statement}
 use Rattle.ieee754.proofs.min_max.minimum_number.Tie as tie
 
 returns : tie.Need-returns
-unfolding minimumNumber
-returns c = chosen number-rule binary32 by-value _ _ (c .before .precedes .ensures) (c .or-number .ensures)
+returns c = let t = c .before in beside-nan minimum-number binary32 _ _ (t .before .unordered .ensures) (t .if1 .taken) (c .the-number .ensures)
+
+returns-2 : tie.Need-returns-2
+returns-2 c = let t = c .before in takes-first minimum-number binary32 _ _ (t .before .before .unordered .ensures) (t .precedes .ensures) (c .if2 .taken)
+
+returns-3 : tie.Need-returns-3
+returns-3 c =
+    let t = c .before in
+    takes-second minimum-number binary32 _ _ (t .before .before .unordered .ensures) (t .before .if1 .left) (t .precedes .ensures) (c .if2 .left)
 
 pub minimum-number-spec : {M : Type 1} → statement M
-minimum-number-spec = tie.close (tie.spec (λ c κs. search needs) (λ c κs. search needs) returns)
+minimum-number-spec = tie.close (tie.spec (λ c κs. search needs) (λ c κs. search needs) returns (λ c κs. search needs) returns-2 returns-3)

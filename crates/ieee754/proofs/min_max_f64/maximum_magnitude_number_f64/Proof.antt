@@ -1,15 +1,20 @@
--- The larger magnitude, the number beside a NaN: one of the eight ways to choose.
+-- The larger magnitude, and the number where an operand is a NaN.
 use borrow.Author.Needs.{needs}
 use lib.Ieee.{binary64}
-use Rattle.ieee754.specs.Operations.{maximumMagnitudeNumber, maximumNumber}
-use Rattle.ieee754.proofs.Orders.{by-value, by-magnitude, converse}
-use Rattle.ieee754.proofs.Choice.{number-rule, chosen-by-magnitude}
+use Rattle.ieee754.proofs.Choice.{maximum-magnitude-number, beside-nan, takes-first, takes-second}
 use Rattle.ieee754.proofs.min_max_f64.maximum_magnitude_number_f64.Statement.{statement}
 use Rattle.ieee754.proofs.min_max_f64.maximum_magnitude_number_f64.Tie as tie
 
 returns : tie.Need-returns
-unfolding maximumMagnitudeNumber maximumNumber
-returns c = chosen-by-magnitude number-rule binary64 (converse by-magnitude) (converse by-value) _ _ (c .before .precedes-in-magnitude .ensures) (c .or-number .ensures)
+returns c = let t = c .before in beside-nan maximum-magnitude-number binary64 _ _ (t .before .unordered .ensures) (t .if1 .taken) (c .the-number .ensures)
+
+returns-2 : tie.Need-returns-2
+returns-2 c = let t = c .before in takes-first maximum-magnitude-number binary64 _ _ (t .before .before .unordered .ensures) (t .precedes-in-magnitude .ensures) (c .if2 .taken)
+
+returns-3 : tie.Need-returns-3
+returns-3 c =
+    let t = c .before in
+    takes-second maximum-magnitude-number binary64 _ _ (t .before .before .unordered .ensures) (t .before .if1 .left) (t .precedes-in-magnitude .ensures) (c .if2 .left)
 
 pub maximum-magnitude-number-f64-spec : {M : Type 1} → statement M
-maximum-magnitude-number-f64-spec = tie.close (tie.spec (λ c κs. search needs) (λ c κs. search needs) returns)
+maximum-magnitude-number-f64-spec = tie.close (tie.spec (λ c κs. search needs) (λ c κs. search needs) returns (λ c κs. search needs) returns-2 returns-3)

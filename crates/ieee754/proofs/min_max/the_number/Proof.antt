@@ -1,0 +1,11 @@
+-- The definition's test.
+use borrow.Author.Needs.{needs}
+use Rattle.ieee754.specs.Operations.{theNumber}
+use Rattle.ieee754.proofs.Fields.{nan-test}
+use Rattle.ieee754.proofs.min_max.the_number.Statement.{statement}
+use Rattle.ieee754.proofs.min_max.the_number.Tie as tie
+
+pub the-number-spec : {M : Type 1} → statement M
+unfolding theNumber
+the-number-spec =
+    tie.close (tie.spec (λ c κs. search needs) (λ c. simp (c .quiet .ensures, ← nan-test, c .before .if1 .taken)) (λ c. simp (← nan-test, c .if1 .left)))

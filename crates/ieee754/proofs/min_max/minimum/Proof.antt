@@ -9,7 +9,7 @@ returns : tie.Need-returns
 returns c = let t = c .before in beside-nan minimum binary32 _ _ (t .before .unordered .ensures) (t .if1 .taken) (c .either-nan .ensures)
 
 returns-2 : tie.Need-returns-2
-returns-2 c = let t = c .before in takes-first minimum binary32 _ _ (t .before .before .unordered .ensures) (t .precedes .ensures) (c .if2 .taken)
+returns-2 c = let t = c .before in takes-first minimum binary32 _ _ (t .precedes .ensures) (c .if2 .taken)
 
 returns-3 : tie.Need-returns-3
 returns-3 c =

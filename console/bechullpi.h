@@ -185,16 +185,16 @@ float bechullpi_ieee754_maximum(float x, float y);
 // The larger of two numbers, 0.0 above -0.0. The number if one operand is a NaN, a NaN if both are.
 float bechullpi_ieee754_maximum_number(float x, float y);
 
-// The operand of smaller magnitude; `minimum` where they are equal or one is a NaN.
+// The operand of smaller magnitude; `minimum` where the magnitudes are equal or an operand is a NaN.
 float bechullpi_ieee754_minimum_magnitude(float x, float y);
 
-// The operand of smaller magnitude; `minimum_number` where they are equal or one is a NaN.
+// The operand of smaller magnitude; `minimum_number` where the magnitudes are equal or an operand is a NaN.
 float bechullpi_ieee754_minimum_magnitude_number(float x, float y);
 
-// The operand of larger magnitude; `maximum` where they are equal or one is a NaN.
+// The operand of larger magnitude; `maximum` where the magnitudes are equal or an operand is a NaN.
 float bechullpi_ieee754_maximum_magnitude(float x, float y);
 
-// The operand of larger magnitude; `maximum_number` where they are equal or one is a NaN.
+// The operand of larger magnitude; `maximum_number` where the magnitudes are equal or an operand is a NaN.
 float bechullpi_ieee754_maximum_magnitude_number(float x, float y);
 
 // The same in double precision, and so the next seven.

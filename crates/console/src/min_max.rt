@@ -41,7 +41,7 @@ pub extern "C" fn bechullpi_ieee754_maximum_number(x: f32, y: f32) -> f32
     ieee754::maximum_number(x, y)
 }
 
-// The operand of smaller magnitude; `minimum` where they are equal or one is a NaN.
+// The operand of smaller magnitude; `minimum` where the magnitudes are equal or an operand is a NaN.
 #[no_mangle]
 pub extern "C" fn bechullpi_ieee754_minimum_magnitude(x: f32, y: f32) -> f32
     ensures { λ r. ⌜ r ≡ Operations.minimumMagnitude x y ⌝ }
@@ -50,7 +50,7 @@ pub extern "C" fn bechullpi_ieee754_minimum_magnitude(x: f32, y: f32) -> f32
     ieee754::minimum_magnitude(x, y)
 }
 
-// The operand of smaller magnitude; `minimum_number` where they are equal or one is a NaN.
+// The operand of smaller magnitude; `minimum_number` where the magnitudes are equal or an operand is a NaN.
 #[no_mangle]
 pub extern "C" fn bechullpi_ieee754_minimum_magnitude_number(x: f32, y: f32) -> f32
     ensures { λ r. ⌜ r ≡ Operations.minimumMagnitudeNumber x y ⌝ }
@@ -59,7 +59,7 @@ pub extern "C" fn bechullpi_ieee754_minimum_magnitude_number(x: f32, y: f32) -> 
     ieee754::minimum_magnitude_number(x, y)
 }
 
-// The operand of larger magnitude; `maximum` where they are equal or one is a NaN.
+// The operand of larger magnitude; `maximum` where the magnitudes are equal or an operand is a NaN.
 #[no_mangle]
 pub extern "C" fn bechullpi_ieee754_maximum_magnitude(x: f32, y: f32) -> f32
     ensures { λ r. ⌜ r ≡ Operations.maximumMagnitude x y ⌝ }
@@ -68,7 +68,7 @@ pub extern "C" fn bechullpi_ieee754_maximum_magnitude(x: f32, y: f32) -> f32
     ieee754::maximum_magnitude(x, y)
 }
 
-// The operand of larger magnitude; `maximum_number` where they are equal or one is a NaN.
+// The operand of larger magnitude; `maximum_number` where the magnitudes are equal or an operand is a NaN.
 #[no_mangle]
 pub extern "C" fn bechullpi_ieee754_maximum_magnitude_number(x: f32, y: f32) -> f32
     ensures { λ r. ⌜ r ≡ Operations.maximumMagnitudeNumber x y ⌝ }

@@ -120,7 +120,7 @@ pub fn maximum_number(x: f32, y: f32) -> f32
     if precedes(y, x) { x } else { y }
 }
 
-// The operand of smaller magnitude; `minimum` where they are equal or one is a NaN.
+// The operand of smaller magnitude; `minimum` where the magnitudes are equal or an operand is a NaN.
 pub fn minimum_magnitude(x: f32, y: f32) -> f32
     ensures { λ r. ⌜ r ≡ Operations.minimumMagnitude x y ⌝ }
     ensures { λ r. ⌜ NanWhere binary32 (isNan x || isNan y) r ⌝ }
@@ -131,7 +131,7 @@ pub fn minimum_magnitude(x: f32, y: f32) -> f32
     if precedes_in_magnitude(x, y) { x } else { y }
 }
 
-// The operand of smaller magnitude; `minimum_number` where they are equal or one is a NaN.
+// The operand of smaller magnitude; `minimum_number` where the magnitudes are equal or an operand is a NaN.
 pub fn minimum_magnitude_number(x: f32, y: f32) -> f32
     ensures { λ r. ⌜ r ≡ Operations.minimumMagnitudeNumber x y ⌝ }
     ensures { λ r. ⌜ NanWhere binary32 (isNan x && isNan y) r ⌝ }
@@ -142,7 +142,7 @@ pub fn minimum_magnitude_number(x: f32, y: f32) -> f32
     if precedes_in_magnitude(x, y) { x } else { y }
 }
 
-// The operand of larger magnitude; `maximum` where they are equal or one is a NaN.
+// The operand of larger magnitude; `maximum` where the magnitudes are equal or an operand is a NaN.
 pub fn maximum_magnitude(x: f32, y: f32) -> f32
     ensures { λ r. ⌜ r ≡ Operations.maximumMagnitude x y ⌝ }
     ensures { λ r. ⌜ NanWhere binary32 (isNan x || isNan y) r ⌝ }
@@ -153,7 +153,7 @@ pub fn maximum_magnitude(x: f32, y: f32) -> f32
     if precedes_in_magnitude(y, x) { x } else { y }
 }
 
-// The operand of larger magnitude; `maximum_number` where they are equal or one is a NaN.
+// The operand of larger magnitude; `maximum_number` where the magnitudes are equal or an operand is a NaN.
 pub fn maximum_magnitude_number(x: f32, y: f32) -> f32
     ensures { λ r. ⌜ r ≡ Operations.maximumMagnitudeNumber x y ⌝ }
     ensures { λ r. ⌜ NanWhere binary32 (isNan x && isNan y) r ⌝ }

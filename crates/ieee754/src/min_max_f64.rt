@@ -128,7 +128,7 @@ pub fn maximum_number_f64(x: f64, y: f64) -> f64
     if precedes(y, x) { x } else { y }
 }
 
-// The operand of smaller magnitude; `minimum_f64` where they are equal or one is a NaN.
+// The operand of smaller magnitude; `minimum_f64` where the magnitudes are equal or an operand is a NaN.
 pub fn minimum_magnitude_f64(x: f64, y: f64) -> f64
     ensures { λ r. ⌜ r ≡ Operations.minimumMagnitude x y ⌝ }
     ensures { λ r. ⌜ NanWhere binary64 (isNan x || isNan y) r ⌝ }
@@ -139,7 +139,7 @@ pub fn minimum_magnitude_f64(x: f64, y: f64) -> f64
     if precedes_in_magnitude(x, y) { x } else { y }
 }
 
-// The operand of smaller magnitude; `minimum_number_f64` where they are equal or one is a NaN.
+// The operand of smaller magnitude; `minimum_number_f64` where the magnitudes are equal or an operand is a NaN.
 pub fn minimum_magnitude_number_f64(x: f64, y: f64) -> f64
     ensures { λ r. ⌜ r ≡ Operations.minimumMagnitudeNumber x y ⌝ }
     ensures { λ r. ⌜ NanWhere binary64 (isNan x && isNan y) r ⌝ }
@@ -150,7 +150,7 @@ pub fn minimum_magnitude_number_f64(x: f64, y: f64) -> f64
     if precedes_in_magnitude(x, y) { x } else { y }
 }
 
-// The operand of larger magnitude; `maximum_f64` where they are equal or one is a NaN.
+// The operand of larger magnitude; `maximum_f64` where the magnitudes are equal or an operand is a NaN.
 pub fn maximum_magnitude_f64(x: f64, y: f64) -> f64
     ensures { λ r. ⌜ r ≡ Operations.maximumMagnitude x y ⌝ }
     ensures { λ r. ⌜ NanWhere binary64 (isNan x || isNan y) r ⌝ }
@@ -161,7 +161,7 @@ pub fn maximum_magnitude_f64(x: f64, y: f64) -> f64
     if precedes_in_magnitude(y, x) { x } else { y }
 }
 
-// The operand of larger magnitude; `maximum_number_f64` where they are equal or one is a NaN.
+// The operand of larger magnitude; `maximum_number_f64` where the magnitudes are equal or an operand is a NaN.
 pub fn maximum_magnitude_number_f64(x: f64, y: f64) -> f64
     ensures { λ r. ⌜ r ≡ Operations.maximumMagnitudeNumber x y ⌝ }
     ensures { λ r. ⌜ NanWhere binary64 (isNan x && isNan y) r ⌝ }

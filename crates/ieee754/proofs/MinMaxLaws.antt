@@ -8,7 +8,7 @@ use Rattle.ieee754.specs.Operations as Operations
 use Rattle.ieee754.specs.Operations.{abs, isSignMinus, precedes, smaller, choose, eitherNan, theNumber}
 use Rattle.ieee754.specs.MinMaxLaws.{Laws, EachLawful, minusZero, plusZero}
 use Rattle.ieee754.proofs.Orders.{Order, by-value, by-magnitude, converse, same-value}
-use Rattle.ieee754.proofs.Choice.{only-nan, either-by}
+use Rattle.ieee754.proofs.Choice.{only-nan, either-by, number-by}
 
 -- what is left where neither operand comes first
 record Rest (f : Format) (before : Float → Float → Bool) (rest : Float → Float → Float) : Type 0 where
@@ -72,10 +72,11 @@ nan-rest f = settled f eitherNan (λ x y. isNan x) either-by (λ x y e. go x y (
 
 number-rest : (f : Format) → Rest f precedes theNumber
 unfolding theNumber
-number-rest f = settled f theNumber (λ x y. isNan y) (λ x y. refl) (λ x y e. go x y (isNan x) (isNan y) e refl refl)
+number-rest f = settled f theNumber (λ x y. isNan y) number-by (λ x y e. go x y (isNan x) (isNan y) e refl refl)
   where
-    go : (x y : Float) (a b : Bool) → (isNan x ≡ false → isNan y ≡ false → x ≡ y) → isNan x ≡ a → isNan y ≡ b → cond b x y ≡ cond a y x
-    go x y true true e A B = only-nan x A ∙ sym (only-nan y B)
+    go : (x y : Float) (a b : Bool) → (isNan x ≡ false → isNan y ≡ false → x ≡ y) → isNan x ≡ a → isNan y ≡ b
+        → cond a y (cond b x y) ≡ cond b x (cond a y x)
+    go x y true true e A B = only-nan y B ∙ sym (only-nan x A)
     go x y true false e A B = refl
     go x y false true e A B = refl
     go x y false false e A B = sym (e A B)

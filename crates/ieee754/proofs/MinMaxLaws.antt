@@ -5,7 +5,7 @@ use mathlib.Core.Logic.{_⊎_, inl, inr}
 use lib.Dec.{T}
 use lib.Ieee.{Float, nan, Format, fits, isNan, lt, eq}
 use Rattle.ieee754.specs.Operations as Operations
-use Rattle.ieee754.specs.Operations.{abs, isSignMinus, precedes, smaller, choose, eitherNan, theNumber}
+use Rattle.ieee754.specs.Operations.{abs, isSignMinus, precedes, smallerMagnitude, choose, eitherNan, theNumber}
 use Rattle.ieee754.specs.MinMaxLaws.{Laws, EachLawful, minusZero, plusZero}
 use Rattle.ieee754.proofs.Orders.{Order, by-value, by-magnitude, converse, same-value}
 use Rattle.ieee754.proofs.Choice.{only-nan, either-by, number-by}
@@ -91,7 +91,7 @@ operation l = record { operand = l .operand; idempotent = l .idempotent; commuta
 -- ---- the eight
 
 pub each-lawful : (f : Format) → EachLawful f
-unfolding Operations.minimum Operations.minimumNumber Operations.maximum Operations.maximumNumber Operations.minimumMagnitude Operations.minimumMagnitudeNumber Operations.maximumMagnitude Operations.maximumMagnitudeNumber choose eitherNan theNumber precedes smaller lt eq isNan isSignMinus abs
+unfolding Operations.minimum Operations.minimumNumber Operations.maximum Operations.maximumNumber Operations.minimumMagnitude Operations.minimumMagnitudeNumber Operations.maximumMagnitude Operations.maximumMagnitudeNumber choose eitherNan theNumber precedes smallerMagnitude lt eq isNan isSignMinus abs
 each-lawful f =
     let minimum = lawful by-value (nan-rest f) minusZero refl in
     let minimumNumber = lawful by-value (number-rest f) minusZero refl in

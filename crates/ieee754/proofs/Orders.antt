@@ -8,7 +8,7 @@ use native.Mathlib.Decide.{decLt}
 use native.Mathlib.Omega.{arith}
 use lib.Dec.{T, leb, ltb}
 use lib.Ieee.{Float, nan, inf, fin, Format, fits, isNan, lt, eq, ne, toBits, top, below, level, up, down}
-use Rattle.ieee754.specs.Operations.{isSignMinus, abs, precedes, smaller}
+use Rattle.ieee754.specs.Operations.{isSignMinus, abs, precedes, smallerMagnitude}
 use Rattle.ieee754.proofs.Equal.{equal-numbers, equal-bits}
 use Rattle.ieee754.proofs.Fields.{sign-bit, one-value, abs-number}
 use Rattle.ieee754.proofs.SmallestUnits.{same-bits}
@@ -126,11 +126,11 @@ pub neither : (p q : Bool) → (p || q) ≡ false → (p ≡ false) × (q ≡ fa
 neither true q h = absurd (true≢false h)
 neither false q h = (refl, h)
 
-pub by-magnitude : Order smaller
-unfolding precedes smaller
+pub by-magnitude : Order smallerMagnitude
+unfolding precedes smallerMagnitude
 by-magnitude = record { numbers = go; one-way = λ x y h. neither _ _ (by-value .one-way (abs x) (abs y) (rw h)) .0 }
   where
-    go : (x y : Float) → smaller x y ≡ true → (isNan x ≡ false) × (isNan y ≡ false)
+    go : (x y : Float) → smallerMagnitude x y ≡ true → (isNan x ≡ false) × (isNan y ≡ false)
     go x y h = let n = by-value .numbers (abs x) (abs y) (rw h) in (sym (abs-number x) ∙ n .0, sym (abs-number y) ∙ n .1)
 
 -- the converse of an order

@@ -4,7 +4,7 @@ ghost use mathlib.Core.Path.{_≡_};
 ghost use mathlib.Core.Bool.{not, _&&_, _||_};
 ghost use lib.Ieee.{binary32, isNan};
 ghost use Rattle.ieee754.specs.Operations as Operations;
-ghost use Rattle.ieee754.specs.Operations.{smaller, NanWhere};
+ghost use Rattle.ieee754.specs.Operations.{smallerMagnitude, NanWhere};
 use crate::operations::abs;
 
 // Whether x is below y, where -0.0 is below 0.0.
@@ -23,7 +23,7 @@ fn precedes(x: f32, y: f32) -> bool
 
 // Whether x has the smaller magnitude, or the same one and is below y.
 fn precedes_in_magnitude(x: f32, y: f32) -> bool
-    ensures { λ r. ⌜ r ≡ (smaller x y || (not (smaller y x) && Operations.precedes x y)) ⌝ }
+    ensures { λ r. ⌜ r ≡ (smallerMagnitude x y || (not (smallerMagnitude y x) && Operations.precedes x y)) ⌝ }
 {
     let a: f32 = abs(x);
     let b: f32 = abs(y);

@@ -3,7 +3,7 @@ ghost use mathlib.Core.Path.{_≡_};
 ghost use mathlib.Core.Bool.{not, _&&_, _||_};
 ghost use lib.Ieee.{binary64, isNan};
 ghost use Rattle.ieee754.specs.Operations as Operations;
-ghost use Rattle.ieee754.specs.Operations.{smaller, NanWhere};
+ghost use Rattle.ieee754.specs.Operations.{smallerMagnitude, NanWhere};
 
 // Whether x is below y, where -0.0 is below 0.0.
 fn precedes(x: f64, y: f64) -> bool
@@ -31,7 +31,7 @@ fn abs(x: f64) -> f64
 
 // Whether x has the smaller magnitude, or the same one and is below y.
 fn precedes_in_magnitude(x: f64, y: f64) -> bool
-    ensures { λ r. ⌜ r ≡ (smaller x y || (not (smaller y x) && Operations.precedes x y)) ⌝ }
+    ensures { λ r. ⌜ r ≡ (smallerMagnitude x y || (not (smallerMagnitude y x) && Operations.precedes x y)) ⌝ }
 {
     let a: f64 = abs(x);
     let b: f64 = abs(y);

@@ -8,7 +8,7 @@ use lib.Ieee.{Float, neg, le, toUnsigned}
 use Rattle.ieee754.specs.Single.{_⊕_, _⊖_, _⊗_, _⊘_, decimal}
 use Rattle.ieee754.specs.Operations.{abs, minimumNumber, clamp}
 use Rattle.block.specs.Block.{Turn, samples, after}
-use Rattle.refusal.specs.Refusal.{ask, askBlock, unlessRefused, isSampleRate, isUnit}
+use Rattle.refusal.specs.Refusal.{ask, askBlock, unlessRefused, isSampleRate, isBassDecay}
 use Rattle.units.specs.Units.{ratio}
 use Rattle.utils.specs.Utils.{onePole}
 use Rattle.filter.specs.Svf as Svf
@@ -186,8 +186,8 @@ turn b v = let next = step b v in record { sample = next .«tone_lp»; next = ne
 -- the number of the first question that is not passed; 0 where all are
 unfoldable pub renderRefusal : ℕ → Float → Float → Float → Float → Float → Float → ℕ
 renderRefusal size accent f0 tone decay attackFmAmount selfFmAmount =
-    askBlock size f0 accent tone decay attackFmAmount
-    (ask (isUnit selfFmAmount) 5
+    askBlock size f0 accent tone attackFmAmount selfFmAmount
+    (ask (isBassDecay decay) 5
     0)
 
 -- the voice after the call

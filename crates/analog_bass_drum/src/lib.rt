@@ -2,7 +2,7 @@
 ghost use mathlib.Core.Path.{_≡_};
 ghost use mathlib.Core.Bool.{true};
 ghost use lib.ListN.{length};
-ghost use Rattle.refusal.specs.Refusal.{answerNumber, KnobIn};
+ghost use Rattle.refusal.specs.Refusal.{answerNumber};
 ghost use Rattle.block.specs.Block.{samples, after};
 ghost use Rattle.analog_bass_drum.specs.AnalogBassDrum as spec;
 ghost use Rattle.analog_bass_drum.specs.Rest.{AtRest};
@@ -332,21 +332,28 @@ fn asked(
     ensures { λ r. ⌜ answerNumber r ≡ spec.renderRefusal samples accent f0 tone decay «attack_fm_amount» «self_fm_amount» ⌝ }
 {
     let last = refusal::ask(
-        refusal::is_unit(self_fm_amount),
+        refusal::is_bass_decay(decay),
         Refusal::Knob,
         Answer::Accepted,
     );
-    refusal::ask_block(samples, f0, accent, tone, decay, attack_fm_amount, last)
+    refusal::ask_block(
+        samples,
+        f0,
+        accent,
+        tone,
+        attack_fm_amount,
+        self_fm_amount,
+        last,
+    )
 }
 
 impl Settings {
-    // The lines before the loop. Both pitches lie in the tables, so neither ratio is replaced.
+    // The lines before the loop.
     fn new(f0: f32, tone: f32, decay: f32, attack_fm_amount: f32, self_fm_amount: f32) -> Self
-        requires { ⌜ KnobIn tone × KnobIn decay ⌝ }
         ensures { λ r. ⌜ r ≡ spec.settings f0 tone decay «attack_fm_amount» «self_fm_amount» ⌝ }
     {
-        let decay_ratio = units::semitones_to_ratio(decay * 80.0).unwrap_or(0.0);
-        let tone_ratio = units::semitones_to_ratio(tone * 108.0).unwrap_or(0.0);
+        let decay_ratio = units::semitones_to_ratio(decay * 80.0);
+        let tone_ratio = units::semitones_to_ratio(tone * 108.0);
         Settings {
             f0,
             scale: 0.001 / f0,

@@ -2,7 +2,7 @@
 ghost use mathlib.Core.Path.{_≡_};
 ghost use mathlib.Core.Bool.{true};
 ghost use lib.ListN.{length};
-ghost use Rattle.refusal.specs.Refusal.{answerNumber, KnobIn};
+ghost use Rattle.refusal.specs.Refusal.{answerNumber};
 ghost use Rattle.block.specs.Block.{samples, after};
 ghost use Rattle.analog_snare_drum.specs.AnalogSnareDrum as spec;
 ghost use Rattle.analog_snare_drum.specs.Rest.{AtRest};
@@ -399,14 +399,13 @@ fn asked(samples: usize, accent: f32, f0: f32, tone: f32, decay: f32, snappy: f3
 }
 
 impl Settings {
-    // Both pitches lie in the tables, so neither ratio is replaced. Decay and leak take the knob `snappy` as it is, the loop takes it clamped.
+    // The lines before the loop. Decay and leak take the knob `snappy` as it is, the loop takes it clamped.
     fn new(tone: f32, decay: f32, snappy: f32) -> Self
-        requires { ⌜ KnobIn decay × KnobIn snappy ⌝ }
         ensures { λ r. ⌜ r ≡ spec.settings tone decay snappy ⌝ }
     {
         let decay_xt = decay * (1.0 + decay * (decay - 1.0));
-        let q_ratio = units::semitones_to_ratio(decay_xt * 84.0).unwrap_or(0.0);
-        let noise_ratio = units::semitones_to_ratio(-decay * (50.0 + snappy * 10.0)).unwrap_or(0.0);
+        let q_ratio = units::semitones_to_ratio(decay_xt * 84.0);
+        let noise_ratio = units::semitones_to_ratio(-decay * (50.0 + snappy * 10.0));
         let gain = gains(tone);
         Settings {
             q: 2000.0 * q_ratio,

@@ -5,7 +5,10 @@ use mathlib.Core.Bool.{Bool, true, false, not, false≢true}
 use lib.Dec.{T}
 use lib.Ieee.{Float, nan, binary32, le, round, ofBits, nanBits}
 use Rattle.ieee754.proofs.NotANumber.{nan-of}
-use Rattle.refusal.specs.Refusal.{within, isFrequency, isUnit}
+use Rattle.refusal.specs.Refusal.{within, isFrequency, isUnit, isBassDecay}
+use Rattle.cue_sheet.specs.CueLine.{isDecay}
+use Rattle.cue_sheet.specs.declared.Voice.{Voice}
+use Rattle.cue_sheet.specs.declared.Voice.the-variants.{Bass, Snare, SyntheticSnare, Hihat}
 
 pub nan-frequency : isFrequency nan ≡ false
 unfolding isFrequency within le round
@@ -14,6 +17,17 @@ nan-frequency = refl
 pub nan-unit : isUnit nan ≡ false
 unfolding isUnit within le round
 nan-unit = refl
+
+pub nan-bass-decay : isBassDecay nan ≡ false
+unfolding isBassDecay within le round
+nan-bass-decay = refl
+
+nan-decay : (voice : Voice) → isDecay voice nan ≡ false
+unfolding isDecay
+nan-decay Bass = nan-bass-decay
+nan-decay Snare = nan-unit
+nan-decay SyntheticSnare = nan-unit
+nan-decay Hihat = nan-unit
 
 -- so a pattern that passes one is that of a number
 passed-number : (q : Float → Bool) → q nan ≡ false → (bits : ℕ) → q (ofBits binary32 bits) ≡ true → T (not (nanBits binary32 bits))
@@ -28,3 +42,6 @@ unit-number = passed-number isUnit nan-unit
 
 pub frequency-number : (bits : ℕ) → isFrequency (ofBits binary32 bits) ≡ true → T (not (nanBits binary32 bits))
 frequency-number = passed-number isFrequency nan-frequency
+
+pub decay-number : (voice : Voice) (bits : ℕ) → isDecay voice (ofBits binary32 bits) ≡ true → T (not (nanBits binary32 bits))
+decay-number voice = passed-number (isDecay voice) (nan-decay voice)

@@ -5,14 +5,14 @@ use mathlib.Core.Path.{_≡_, refl, sym, ap, _∙_}
 use mathlib.Core.Bool.{Bool, true, false, cond}
 use mathlib.Core.List.{List, _∷_}
 use lib.Dec.{ltb, leb}
+use lib.Ieee.{Float}
 use borrow.Author.Tests.{lt-ltb, ltb-true, leb-true}
-use Rattle.refusal.specs.Refusal.{number, answerNumber}
+use Rattle.refusal.specs.Refusal.{number, answerNumber, isFrequency, isUnit}
 use Rattle.refusal.specs.declared.Refusal.{Refusal}
 use Rattle.refusal.specs.declared.Answer.{Answer}
 use Rattle.refusal.specs.declared.Answer.the-variants.{Accepted, Refused}
-use Rattle.refusal.proofs.ByNumber.{passed, knobs-passed, zero-of, arm-refused}
-pub use Rattle.refusal.proofs.ByNumber.{KnobsIn}
-use Rattle.cue_sheet.specs.CueLine.{strike, refused, answered, float, cueOf, knobsRefusal, fieldsRefusal, readFields, onFields, readCue}
+use Rattle.refusal.proofs.ByNumber.{passed, zero-of, arm-refused}
+use Rattle.cue_sheet.specs.CueLine.{strike, refused, answered, float, cueOf, isDecay, knobsRefusal, fieldsRefusal, readFields, onFields, readCue}
 use Rattle.cue_sheet.specs.Sheet.{onCue, strikesOf}
 use Rattle.cue_sheet.specs.declared.Cue.{Cue}
 use Rattle.cue_sheet.specs.declared.Cue.the-variants.{Bass, Snare, SyntheticSnare, Hihat}
@@ -23,23 +23,37 @@ use Rattle.cue_sheet.specs.declared.CueFields.{CueFields}
 use Rattle.cue_sheet.specs.declared.Fields.{Fields}
 use Rattle.cue_sheet.specs.declared.Fields.the-variants.{Read, Malformed}
 
--- the knobs of a cue, each of which has passed its question
+-- the knobs of a voice, each of which has passed its question
+pub record KnobsIn (voice : Voice) (accent f0 a decay c : Float) : Type 0 where
+  pub frequency : isFrequency f0 ≡ true
+  pub accent-in : isUnit accent ≡ true
+  pub a-in : isUnit a ≡ true
+  pub decay-in : isDecay voice decay ≡ true
+  pub c-in : isUnit c ≡ true
+
 abbrev pub KnobsOf : Cue → Type 0
-KnobsOf (Bass accent f0 tone decay attackFmAmount) = KnobsIn accent f0 tone decay attackFmAmount
-KnobsOf (Snare accent f0 tone decay snappy) = KnobsIn accent f0 tone decay snappy
-KnobsOf (SyntheticSnare accent f0 fmAmount decay snappy) = KnobsIn accent f0 fmAmount decay snappy
-KnobsOf (Hihat accent f0 tone decay noisiness) = KnobsIn accent f0 tone decay noisiness
+KnobsOf (Bass accent f0 tone decay attackFmAmount) = KnobsIn Voice.Bass accent f0 tone decay attackFmAmount
+KnobsOf (Snare accent f0 tone decay snappy) = KnobsIn Voice.Snare accent f0 tone decay snappy
+KnobsOf (SyntheticSnare accent f0 fmAmount decay snappy) = KnobsIn Voice.SyntheticSnare accent f0 fmAmount decay snappy
+KnobsOf (Hihat accent f0 tone decay noisiness) = KnobsIn Voice.Hihat accent f0 tone decay noisiness
 
-pub knobs-in : (k : Patterns) → knobsRefusal k ≡ 0 → KnobsIn (float (k .accent)) (float (k .f0)) (float (k .a)) (float (k .decay)) (float (k .c))
+pub knobs-in : (v : Voice) (k : Patterns) → knobsRefusal v k ≡ 0
+    → KnobsIn v (float (k .accent)) (float (k .f0)) (float (k .a)) (float (k .decay)) (float (k .c))
 unfolding knobsRefusal
-knobs-in k h = knobs-passed _ _ _ _ _ 0 h
+knobs-in v k h =
+    let third = passed (isFrequency _) 3 _ (omega arith) h in
+    let fourth = passed (isUnit _) 4 _ (omega arith) (third .1) in
+    let x = passed (isUnit _) 5 _ (omega arith) (fourth .1) in
+    let y = passed (isDecay v _) 5 _ (omega arith) (x .1) in
+    let z = passed (isUnit _) 5 _ (omega arith) (y .1) in
+    record { frequency = third .0; accent-in = fourth .0; a-in = x .0; decay-in = y .0; c-in = z .0 }
 
-cue-knobs : (v : Voice) (k : Patterns) → knobsRefusal k ≡ 0 → KnobsOf (cueOf v k)
+cue-knobs : (v : Voice) (k : Patterns) → knobsRefusal v k ≡ 0 → KnobsOf (cueOf v k)
 unfolding cueOf
-cue-knobs Voice.Bass k h = knobs-in k h
-cue-knobs Voice.Snare k h = knobs-in k h
-cue-knobs Voice.SyntheticSnare k h = knobs-in k h
-cue-knobs Voice.Hihat k h = knobs-in k h
+cue-knobs Voice.Bass k h = knobs-in Voice.Bass k h
+cue-knobs Voice.Snare k h = knobs-in Voice.Snare k h
+cue-knobs Voice.SyntheticSnare k h = knobs-in Voice.SyntheticSnare k h
+cue-knobs Voice.Hihat k h = knobs-in Voice.Hihat k h
 
 -- ---- a line by what the code finds out about it
 module _ (length cues leastStart : ℕ) (line : List ℕ) {x : Fields} (f : CueFields) (few : cues < 64) (fields : x ≡ readFields line) (known : x ≡ Read f) where
@@ -57,14 +71,14 @@ module _ (length cues leastStart : ℕ) (line : List ℕ) {x : Fields} (f : CueF
   line-accepted made h = sym (asked-all ∙ rw (h, made))
 
 fields-passed : (length leastStart : ℕ) (f : CueFields) → fieldsRefusal length leastStart f ≡ 0
-    → (f .start < length) × (leastStart ≤ f .start) × (knobsRefusal (f .patterns) ≡ 0)
+    → (f .start < length) × (leastStart ≤ f .start) × (knobsRefusal (f .voice) (f .patterns) ≡ 0)
 unfolding fieldsRefusal
 fields-passed length leastStart f h =
     let below = passed (ltb (f .start) length) 9 _ (omega arith) h in
     let rising = passed (leb leastStart (f .start)) 9 _ (omega arith) (below .1) in
     (ltb-true (f .start) length (below .0), leb-true leastStart (f .start) (rising .0), rising .1)
 
-pub line-knobs : (length leastStart : ℕ) (f : CueFields) {a : Answer} → answerNumber a ≡ fieldsRefusal length leastStart f → a ≡ Accepted → knobsRefusal (f .patterns) ≡ 0
+pub line-knobs : (length leastStart : ℕ) (f : CueFields) {a : Answer} → answerNumber a ≡ fieldsRefusal length leastStart f → a ≡ Accepted → knobsRefusal (f .voice) (f .patterns) ≡ 0
 line-knobs length leastStart f known e = fields-passed length leastStart f (zero-of _ _ known e) .2
 
 -- ---- a line that stands for a cue has passed every question

@@ -6,7 +6,7 @@ use mathlib.Core.List.{List, [], _∷_}
 use lib.Dec.{ltb, leb, eqb}
 use lib.ListN.{length}
 use lib.Ieee.{Float, binary32, ofBits}
-use Rattle.refusal.specs.Refusal.{number, ask, unlessRefused, askKnobs}
+use Rattle.refusal.specs.Refusal.{number, ask, unlessRefused, isFrequency, isUnit, isBassDecay}
 use Rattle.text.specs.Read.{ended, body, fields, field, decimal, pattern}
 use Rattle.text.specs.declared.read.Number.{Number}
 use Rattle.text.specs.declared.read.Number.the-variants.{Value, Invalid}
@@ -84,12 +84,25 @@ cueOf Hihat k = Cue.Hihat (float (k .accent)) (float (k .f0)) (float (k .a)) (fl
 
 -- ---- the questions, each with its number, in their order; 0 where all are passed
 
-unfoldable pub knobsRefusal : Patterns → ℕ
-knobsRefusal k = askKnobs (float (k .f0)) (float (k .accent)) (float (k .a)) (float (k .decay)) (float (k .c)) 0
+-- the decay of a bass goes up to 2.0, that of any other voice up to 1.0
+unfoldable pub isDecay : Voice → Float → Bool
+isDecay Bass decay = isBassDecay decay
+isDecay Snare decay = isUnit decay
+isDecay SyntheticSnare decay = isUnit decay
+isDecay Hihat decay = isUnit decay
+
+unfoldable pub knobsRefusal : Voice → Patterns → ℕ
+knobsRefusal voice k =
+    ask (isFrequency (float (k .f0))) 3
+    (ask (isUnit (float (k .accent))) 4
+    (ask (isUnit (float (k .a))) 5
+    (ask (isDecay voice (float (k .decay))) 5
+    (ask (isUnit (float (k .c))) 5
+    0))))
 
 -- the start is below the sheet's length, and not below the least start: 0 for the first cue, and one above the start before for the others
 unfoldable pub fieldsRefusal : ℕ → ℕ → CueFields → ℕ
-fieldsRefusal length leastStart f = ask (ltb (f .start) length) 9 (ask (leb leastStart (f .start)) 9 (knobsRefusal (f .patterns)))
+fieldsRefusal length leastStart f = ask (ltb (f .start) length) 9 (ask (leb leastStart (f .start)) 9 (knobsRefusal (f .voice) (f .patterns)))
 
 -- ---- what a line says: a cue with its start, or the number of the first question that it does not pass
 pub data LineAnswer : Type 0 where

@@ -1,7 +1,7 @@
 // A cue sheet: its lines read, and the questions that a sheet must pass. Nothing is stored: whoever renders a sheet reads its lines again.
 ghost use mathlib.Core.Path.{_≡_};
 ghost use lib.Ieee.{binary32, ofBits};
-ghost use Rattle.refusal.specs.Refusal.{answerNumber, isFrequency, isUnit};
+ghost use Rattle.refusal.specs.Refusal.{answerNumber, isFrequency, isUnit, isBassDecay};
 ghost use Rattle.text.specs.Read as Read;
 ghost use Rattle.cue_sheet.specs.CueLine as CueLine;
 ghost use Rattle.cue_sheet.specs.Sheet as Sheet;
@@ -111,6 +111,26 @@ fn is_unit(bits: u32) -> bool
 {
     if ieee754::is_number(bits) {
         refusal::is_unit(f32::from_bits(bits))
+    } else {
+        false
+    }
+}
+
+// The decay of a bass goes up to 2.0, that of any other voice up to 1.0.
+fn is_decay(voice: Voice, bits: u32) -> bool
+    ensures { λ r. ⌜ r ≡ CueLine.isDecay voice (ofBits binary32 bits) ⌝ }
+{
+    match voice {
+        Voice::Bass => is_bass_decay(bits),
+        _ => is_unit(bits),
+    }
+}
+
+fn is_bass_decay(bits: u32) -> bool
+    ensures { λ r. ⌜ r ≡ isBassDecay (ofBits binary32 bits) ⌝ }
+{
+    if ieee754::is_number(bits) {
+        refusal::is_bass_decay(f32::from_bits(bits))
     } else {
         false
     }
@@ -227,11 +247,11 @@ fn read_fields(line: &[u8]) -> Fields
     fields_of(start, voice, patterns)
 }
 
-fn knobs_asked(knobs: Patterns) -> Answer
-    ensures { λ r. ⌜ answerNumber r ≡ CueLine.knobsRefusal knobs ⌝ }
+fn knobs_asked(voice: Voice, knobs: Patterns) -> Answer
+    ensures { λ r. ⌜ answerNumber r ≡ CueLine.knobsRefusal voice knobs ⌝ }
 {
     let last = refusal::ask(is_unit(knobs.c), Refusal::Knob, Answer::Accepted);
-    let decay = refusal::ask(is_unit(knobs.decay), Refusal::Knob, last);
+    let decay = refusal::ask(is_decay(voice, knobs.decay), Refusal::Knob, last);
     let fifth = refusal::ask(is_unit(knobs.a), Refusal::Knob, decay);
     let fourth = refusal::ask(is_unit(knobs.accent), Refusal::Accent, fifth);
     refusal::ask(is_frequency(knobs.f0), Refusal::Frequency, fourth)
@@ -241,15 +261,16 @@ fn asked(fields: CueFields, length: u32, least_start: u32) -> Answer
     ensures { λ r. ⌜ answerNumber r ≡ CueLine.fieldsRefusal length «least_start» fields ⌝ }
 {
     let start = fields.start;
+    let voice = fields.voice;
     let patterns = fields.patterns;
-    let knobs = knobs_asked(patterns);
+    let knobs = knobs_asked(voice, patterns);
     let rising = refusal::ask(least_start <= start, Refusal::CueStart, knobs);
     refusal::ask(start < length, Refusal::CueStart, rising)
 }
 
 // The cue of patterns that have passed their questions, so none is that of a not-a-number.
 fn cue_of(voice: Voice, knobs: Patterns) -> Cue
-    requires { ⌜ CueLine.knobsRefusal knobs ≡ 0 ⌝ }
+    requires { ⌜ CueLine.knobsRefusal voice knobs ≡ 0 ⌝ }
     ensures { λ r. ⌜ r ≡ CueLine.cueOf voice knobs ⌝ }
 {
     let accent = f32::from_bits(knobs.accent);

@@ -6,7 +6,7 @@ pub use square_noise::SquareNoise;
 ghost use mathlib.Core.Path.{_≡_};
 ghost use Prim.Native.Nat.{_≤_};
 ghost use lib.ListN.{length};
-ghost use Rattle.refusal.specs.Refusal.{answerNumber, KnobIn};
+ghost use Rattle.refusal.specs.Refusal.{answerNumber};
 ghost use Rattle.hihat.specs.Hihat as spec;
 use chain::Chain;
 use chain::ClockedNoise;
@@ -162,12 +162,11 @@ impl Hihat {
         }
     }
 
-    // Both filters at the cutoff of a tone. The pitch lies in the tables, so its ratio is not replaced.
+    // Both filters at the cutoff of a tone.
     fn tuned(self, tone: f32, resonance: bool) -> Self
-        requires { ⌜ KnobIn tone ⌝ }
         ensures { λ r. ⌜ r ≡ spec.tuned self tone resonance ⌝ }
     {
-        let ratio = units::semitones_to_ratio(tone * 72.0).unwrap_or(0.0);
+        let ratio = units::semitones_to_ratio(tone * 72.0);
         let cutoff = ieee754::clamp(
             150.0 / self.sample_rate * ratio,
             0.0,
@@ -196,7 +195,7 @@ impl Hihat {
         resonance: bool,
         size: usize,
     ) -> Chain
-        requires { ⌜ KnobIn tone × (size ≤ 16384) ⌝ }
+        requires { ⌜ size ≤ 16384 ⌝ }
         ensures { λ r. ⌜ r ≡ spec.begun self noise trigger accent tone decay resonance size ⌝ }
     {
         let gain = ParameterInterpolator::new(self.sustain_gain, accent * decay, size as u32);
@@ -254,7 +253,7 @@ fn coloration_q(tone: f32, resonance: bool) -> f32
     if resonance { 3.0 + 3.0 * tone } else { 1.0 }
 }
 
-// The lines before the passes, but for the filters. Both pitches lie in the tables, so neither ratio is replaced.
+// The lines before the passes, but for the filters.
 fn block_settings(
     f0: f32,
     decay: f32,
@@ -263,11 +262,10 @@ fn block_settings(
     vca_type: VcaType,
     two_stage_envelope: bool,
 ) -> Settings
-    requires { ⌜ KnobIn decay ⌝ }
     ensures { λ r. ⌜ r ≡ spec.settings f0 decay noisiness sustain «vca_type» «two_stage_envelope» ⌝ }
 {
-    let envelope_ratio = units::semitones_to_ratio(-decay * 84.0).unwrap_or(0.0);
-    let cut_ratio = units::semitones_to_ratio(-decay * 36.0).unwrap_or(0.0);
+    let envelope_ratio = units::semitones_to_ratio(-decay * 84.0);
+    let cut_ratio = units::semitones_to_ratio(-decay * 36.0);
     let increment = square_noise::increments(2.0 * f0);
     let squared = noisiness * noisiness;
     Settings {

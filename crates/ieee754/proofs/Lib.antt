@@ -1,5 +1,4 @@
 -- The laws that several modules, or other crates, use.
-pub mod Bounds
 mod Choice
 pub mod Equal
 mod Fields

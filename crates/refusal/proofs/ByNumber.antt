@@ -8,15 +8,15 @@ use lib.ListN.{getD}
 use lib.Ieee.{Float}
 use borrow.Author.Tests.{leb-true}
 use Rattle.refusal.specs.declared.Refusal.{Refusal}
-use Rattle.refusal.specs.declared.Refusal.the-variants.{SampleRate, BlockLength, Frequency, Accent, Knob, Pitch, FirstLine, CueLine, CueStart, CueCount, BufferLength}
+use Rattle.refusal.specs.declared.Refusal.the-variants.{SampleRate, BlockLength, Frequency, Accent, Knob, FirstLine, CueLine, CueStart, CueCount, BufferLength}
 use Rattle.refusal.specs.declared.Answer.{Answer}
 use Rattle.refusal.specs.declared.Answer.the-variants.{Accepted, Refused}
-use Rattle.refusal.specs.Refusal.{number, answerNumber, unlessRefused, ask, isBlockLength, isFrequency, isUnit, askKnobs, askBlock, KnobIn}
+use Rattle.refusal.specs.Refusal.{number, answerNumber, unlessRefused, ask, isSampleRate, isBlockLength}
 
--- the refusal of a number from 1 to 11
+-- the refusal of a number from 1 to 11, but for 6
 refusalOf : ℕ → Refusal
 refusalOf n =
-    getD (Knob ∷ SampleRate ∷ BlockLength ∷ Frequency ∷ Accent ∷ Knob ∷ Pitch ∷ FirstLine ∷ CueLine ∷ CueStart ∷ CueCount ∷ BufferLength ∷ []) n Knob
+    getD (Knob ∷ SampleRate ∷ BlockLength ∷ Frequency ∷ Accent ∷ Knob ∷ Knob ∷ FirstLine ∷ CueLine ∷ CueStart ∷ CueCount ∷ BufferLength ∷ []) n Knob
 
 numbered : (r : Refusal) → (refusalOf (number r) ≡ r) × ((0 < number r) × (number r ≤ 11))
 unfolding refusalOf
@@ -25,7 +25,6 @@ numbered BlockLength = (refl, omega arith)
 numbered Frequency = (refl, omega arith)
 numbered Accent = (refl, omega arith)
 numbered Knob = (refl, omega arith)
-numbered Pitch = (refl, omega arith)
 numbered FirstLine = (refl, omega arith)
 numbered CueLine = (refl, omega arith)
 numbered CueStart = (refl, omega arith)
@@ -60,26 +59,7 @@ pub passed : (q : Bool) (n next : ℕ) → 0 < n → ask q n next ≡ 0 → (q �
 passed true n next p h = (refl, h)
 passed false n next p h = absurd (omega arith)
 
--- five knobs that have passed their questions
-pub record KnobsIn (accent f0 a decay c : Float) : Type 0 where
-  pub frequency : isFrequency f0 ≡ true
-  pub accent-in : KnobIn accent
-  pub a-in : KnobIn a
-  pub decay-in : KnobIn decay
-  pub c-in : KnobIn c
-
-pub knobs-passed : (f0 accent a decay c : Float) (next : ℕ) → askKnobs f0 accent a decay c next ≡ 0 → KnobsIn accent f0 a decay c
-knobs-passed f0 accent a decay c next h =
-    let third = passed (isFrequency f0) 3 _ (omega arith) h in
-    let fourth = passed (isUnit accent) 4 _ (omega arith) (third .1) in
-    let x = passed (isUnit a) 5 _ (omega arith) (fourth .1) in
-    let y = passed (isUnit decay) 5 _ (omega arith) (x .1) in
-    let z = passed (isUnit c) 5 _ (omega arith) (y .1) in
-    record { frequency = third .0; accent-in = fourth .0; a-in = x .0; decay-in = y .0; c-in = z .0 }
-
--- and the length of the block before them
-pub block-passed : (size : ℕ) (f0 accent a decay c : Float) (next : ℕ) → askBlock size f0 accent a decay c next ≡ 0
-    → (size ≤ 16384) × KnobsIn accent f0 a decay c
-block-passed size f0 accent a decay c next h =
-    let second = passed (isBlockLength size) 2 _ (omega arith) h in
-    (leb-true _ _ (second .0), knobs-passed f0 accent a decay c next (second .1))
+-- the block of an accepted call of a voice that stores its rate
+pub short-block : (rate : Float) (size next : ℕ) → ask (isSampleRate rate) 1 (ask (isBlockLength size) 2 next) ≡ 0 → size ≤ 16384
+short-block rate size next h =
+    leb-true _ _ (passed (isBlockLength size) 2 _ (omega arith) (passed (isSampleRate rate) 1 _ (omega arith) h .1) .0)

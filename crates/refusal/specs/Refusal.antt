@@ -1,23 +1,21 @@
 -- Refusals, their numbers, and the questions that several routines ask. Definitions only.
 use Prim.Native.Nat.{ℕ, zero, suc, _^_}
-use mathlib.Core.Path.{_≡_}
 use mathlib.Core.Bool.{Bool, true, false, _&&_}
 use lib.Dec.{leb}
 use lib.Ieee.{Float, binary32, le, round}
 use Rattle.ieee754.specs.Single.{decimal}
 use Rattle.refusal.specs.declared.Refusal.{Refusal}
-use Rattle.refusal.specs.declared.Refusal.the-variants.{SampleRate, BlockLength, Frequency, Accent, Knob, Pitch, FirstLine, CueLine, CueStart, CueCount, BufferLength}
+use Rattle.refusal.specs.declared.Refusal.the-variants.{SampleRate, BlockLength, Frequency, Accent, Knob, FirstLine, CueLine, CueStart, CueCount, BufferLength}
 use Rattle.refusal.specs.declared.Answer.{Answer}
 use Rattle.refusal.specs.declared.Answer.the-variants.{Accepted, Refused}
 
--- the number that a user sees
+-- the number that a user sees; 6 is retired and never given to another question
 abbrev pub number : Refusal → ℕ
 number SampleRate = 1
 number BlockLength = 2
 number Frequency = 3
 number Accent = 4
 number Knob = 5
-number Pitch = 6
 number FirstLine = 7
 number CueLine = 8
 number CueStart = 9
@@ -59,20 +57,17 @@ isFrequency f0 = within (round binary32 false 1 (2 ^ 20)) (decimal 5 1) f0
 unfoldable pub isUnit : Float → Bool
 isUnit x = within (decimal 0 0) (decimal 1 0) x
 
--- 3, 4 and 5: what is asked of f0, of accent and of three more knobs, wherever a voice is played
-abbrev pub askKnobs : Float → Float → Float → Float → Float → ℕ → ℕ
-askKnobs f0 accent a b c next =
-    ask (isFrequency f0) 3
+-- 5, of the bass's decay alone: a number from 0.0 to 2.0
+unfoldable pub isBassDecay : Float → Bool
+isBassDecay x = within (decimal 0 0) (decimal 2 0) x
+
+-- 2 to 5: what every `render` asks of its block, of f0, of accent and of three more knobs
+abbrev pub askBlock : ℕ → Float → Float → Float → Float → Float → ℕ → ℕ
+askBlock samples f0 accent a b c next =
+    ask (isBlockLength samples) 2
+    (ask (isFrequency f0) 3
     (ask (isUnit accent) 4
     (ask (isUnit a) 5
     (ask (isUnit b) 5
     (ask (isUnit c) 5
-    next))))
-
--- 2 to 5: what every `render` asks of its block and of its knobs
-abbrev pub askBlock : ℕ → Float → Float → Float → Float → Float → ℕ → ℕ
-askBlock samples f0 accent a b c next = ask (isBlockLength samples) 2 (askKnobs f0 accent a b c next)
-
--- a knob that has passed its question
-abbrev pub KnobIn : Float → Type 0
-KnobIn x = isUnit x ≡ true
+    next)))))

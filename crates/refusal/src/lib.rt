@@ -2,14 +2,13 @@
 ghost use mathlib.Core.Path.{_≡_};
 ghost use Rattle.refusal.specs.Refusal as spec;
 
-// The questions, by what they ask for, in the order of their numbers.
+// The questions, by what they ask for, in the order of their numbers. 6 is retired: it was a pitch past the end of the tables.
 pub enum Refusal {
     SampleRate,
     BlockLength,
     Frequency,
     Accent,
     Knob,
-    Pitch,
     FirstLine,
     CueLine,
     CueStart,
@@ -32,7 +31,6 @@ impl Refusal {
             Refusal::Frequency => 3,
             Refusal::Accent => 4,
             Refusal::Knob => 5,
-            Refusal::Pitch => 6,
             Refusal::FirstLine => 7,
             Refusal::CueLine => 8,
             Refusal::CueStart => 9,
@@ -90,25 +88,21 @@ pub fn is_frequency(f0: f32) -> bool
     within(0.00000095367431640625, 0.5, f0)
 }
 
-// Accent and the other knobs.
+// Accent and the other knobs, but for one.
 pub fn is_unit(x: f32) -> bool
     ensures { λ r. ⌜ r ≡ spec.isUnit x ⌝ }
 {
     within(0.0, 1.0, x)
 }
 
-// The questions 3, 4 and 5, of f0, of accent and of three more knobs, and the answer of the questions after them.
-pub fn ask_knobs(f0: f32, accent: f32, a: f32, b: f32, c: f32, next: Answer) -> Answer
-    ensures { λ r. ⌜ spec.answerNumber r ≡ spec.askKnobs f0 accent a b c (spec.answerNumber next) ⌝ }
+// The one knob that goes further: the decay of the bass, whose thud rings longer in a large pipe.
+pub fn is_bass_decay(x: f32) -> bool
+    ensures { λ r. ⌜ r ≡ spec.isBassDecay x ⌝ }
 {
-    let last = ask(is_unit(c), Refusal::Knob, next);
-    let second = ask(is_unit(b), Refusal::Knob, last);
-    let knobs = ask(is_unit(a), Refusal::Knob, second);
-    let accents = ask(is_unit(accent), Refusal::Accent, knobs);
-    ask(is_frequency(f0), Refusal::Frequency, accents)
+    within(0.0, 2.0, x)
 }
 
-// The questions 2 to 5, of the block's length and of the knobs, and the answer of the questions after them.
+// The questions 2 to 5, of the block's length, of f0, of accent and of three more knobs, and the answer of the questions after them.
 pub fn ask_block(
     samples: usize,
     f0: f32,
@@ -120,6 +114,10 @@ pub fn ask_block(
 ) -> Answer
     ensures { λ r. ⌜ spec.answerNumber r ≡ spec.askBlock samples f0 accent a b c (spec.answerNumber next) ⌝ }
 {
-    let knobs = ask_knobs(f0, accent, a, b, c, next);
-    ask(is_block_length(samples), Refusal::BlockLength, knobs)
+    let last = ask(is_unit(c), Refusal::Knob, next);
+    let second = ask(is_unit(b), Refusal::Knob, last);
+    let knobs = ask(is_unit(a), Refusal::Knob, second);
+    let accents = ask(is_unit(accent), Refusal::Accent, knobs);
+    let frequencies = ask(is_frequency(f0), Refusal::Frequency, accents);
+    ask(is_block_length(samples), Refusal::BlockLength, frequencies)
 }

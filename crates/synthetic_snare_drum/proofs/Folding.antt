@@ -1,12 +1,13 @@
 -- Two choices that one comparison makes, for every x: x is below 1 - x where it is below 0.5, and the larger of 1 - x and 1 + x is 1 + |x|.
-use borrow.Author.Tests.{ltb-true, ltb-false, lt-ltb, le-ltb}
+use borrow.Author.Tests.{ltb-true, ltb-false, lt-ltb, le-ltb, ne-eqb}
 use mathlib.Core.Path.{_≡_, refl, sym, _∙_}
-use mathlib.Core.Bool.{Bool, true, false, cond, true≢false}
+use mathlib.Core.Bool.{Bool, true, false, cond, _&&_, _||_, true≢false}
 use Prim.Native.Nat.{ℕ, _+_, _-_, _*_, _≤_, _<_}
 use native.Mathlib.Nat.{le-refl, mul-pos, mul-le-mul-right, mul-lt-mul-of-pos-right}
+use native.Mathlib.Decide.{decLe}
 use native.Mathlib.Omega.{arith}
 use lib.IntN.{ℤ, negsuc}
-use lib.Dec.{T, ltb, ltb→lt, lit<}
+use lib.Dec.{T, ltb, eqb, ltb→lt, lit<}
 use lib.Ieee.{Float, nan, inf, fin, Format, binary32, up, down, round, sum, add, sub, neg, lt, le}
 use lib.Ieee.Bits.{is-true}
 use lib.Ieee.Fits.{up-pos, down-pos, round-fits}
@@ -14,7 +15,6 @@ use lib.Ieee.Order.{round-mono}
 use lib.Ieee.Positive.{above, above-of-le, through}
 use Rattle.ieee754.specs.Operations.{isSignMinus, abs}
 use Rattle.ieee754.specs.Single.{_⊕_, _⊖_, decimal}
-use Rattle.ieee754.proofs.Bounds.{at-most}
 use Rattle.ieee754.proofs.Equal.{equal-value}
 use Rattle.ieee754.proofs.Signs.{round-sign}
 
@@ -41,6 +41,10 @@ unfolding le
 minus-le x y s p = rw (minus-lt x y s p) tt
 
 -- ---- what lies at or above an upper bound of z is not below z
+-- `le` of two values without a minus sign
+at-most : (a b : ℕ) → T (ltb a b || (eqb a b && true)) → a ≤ b
+at-most a b t = elim (decLe a b) [ yes h ↦ h | no g ↦ absurd (rw (le-ltb a b (omega arith), ne-eqb a b (omega arith)) at t) ]
+
 fin-not-lt : (m n : ℕ) (e d : ℤ) (z : Float) → n * up d * down e ≤ m * up e * down d → T (le z (fin false n d)) → lt (fin false m e) z ≡ false
 unfolding lt le
 fin-not-lt m n e d nan h l = refl
@@ -49,7 +53,7 @@ fin-not-lt m n e d (inf false) h l = absurd l
 fin-not-lt m n e d (fin true k g) h l = refl
 fin-not-lt m n e d (fin false k g) h l =
     le-ltb (m * up e * down g) (k * up g * down e)
-    (through (k * up g) (n * up d) (m * up e) (down g) (down d) (down e) (down-pos d) (at-most (k * up g * down d) (n * up d * down g) true l) h)
+    (through (k * up g) (n * up d) (m * up e) (down g) (down d) (down e) (down-pos d) (at-most (k * up g * down d) (n * up d * down g) l) h)
 
 not-lt : (x y : Float) → isSignMinus x ≡ false → T (le y x) → lt x y ≡ false
 unfolding lt isSignMinus
@@ -106,7 +110,7 @@ fin-lt m e (inf false) h l = refl
 fin-lt m e (fin true k g) h l = absurd (above-of-le (decimal 5 1) (fin true k g) tt l)
 fin-lt m e (fin false k g) h l =
     lt-ltb (m * up e * down g) (k * up g * down e)
-    (omega (arith, mul-lt-mul-of-pos-right h (down-pos g), mul-le-mul-right (down e) (at-most (1 * down g) (k * up g * 2) true l)))
+    (omega (arith, mul-lt-mul-of-pos-right h (down-pos g), mul-le-mul-right (down e) (at-most (1 * down g) (k * up g * 2) l)))
 
 -- x is num / den
 module _ (m : ℕ) (e : ℤ) where

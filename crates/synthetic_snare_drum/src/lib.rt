@@ -4,7 +4,7 @@ ghost use Prim.Native.Nat.{_≤_};
 ghost use lib.ListN.{length};
 ghost use Rattle.ieee754.specs.Single.{_⊕_, decimal};
 ghost use Rattle.ieee754.specs.Operations.{abs};
-ghost use Rattle.refusal.specs.Refusal.{answerNumber, KnobIn};
+ghost use Rattle.refusal.specs.Refusal.{answerNumber};
 ghost use Rattle.block.specs.Block.{samples, after};
 ghost use Rattle.synthetic_snare_drum.specs.SyntheticSnareDrum as spec;
 use filter::FilterMode;
@@ -256,7 +256,7 @@ fn asked(
 }
 
 impl Settings {
-    // The lines before the loop. Both pitches lie in the tables, so neither ratio is replaced.
+    // The lines before the loop.
     fn new(
         sample_rate_hz: f32,
         sustain: bool,
@@ -265,15 +265,14 @@ impl Settings {
         decay: f32,
         snappy: f32,
     ) -> Self
-        requires { ⌜ KnobIn «fm_amount» × (KnobIn decay × KnobIn snappy) ⌝ }
         ensures { λ r. ⌜ r ≡ spec.settings «sample_rate_hz» sustain f0 «fm_amount» decay snappy ⌝ }
     {
         let decay_xt = decay * (1.0 + decay * (decay - 1.0));
         let fm_squared = fm_amount * fm_amount;
         let drum_ratio = units::semitones_to_ratio(
             -decay_xt * 72.0 - fm_squared * 12.0 + snappy * 7.0,
-        ).unwrap_or(0.0);
-        let snare_ratio = units::semitones_to_ratio(-decay * 60.0 - snappy * 7.0).unwrap_or(0.0);
+        );
+        let snare_ratio = units::semitones_to_ratio(-decay * 60.0 - snappy * 7.0);
         let clamped = ieee754::clamp(snappy * 1.1 - 0.05, 0.0, 1.0);
         Settings {
             sustain,

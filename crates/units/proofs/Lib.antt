@@ -8,4 +8,3 @@ mod Fractions
 mod PitchPlaces
 mod Product
 mod Accuracy
-pub mod InRange

@@ -20,7 +20,6 @@ use Rattle.ieee754.specs.Operations.{isSignMinus}
 use Rattle.ieee754.specs.Single.{_⊖_, _⊗_, decimal}
 use Rattle.ieee754.proofs.Numbers.{pow-split}
 use Rattle.ieee754.proofs.Whole.{unsigned-of-value, of-minus}
-use Rattle.ieee754.proofs.Bounds.{minus-zero}
 use Rattle.units.specs.Accuracy.{floor256}
 use Rattle.units.proofs.Fractions.{less-whole, product, exact, minus-less, minus-times}
 
@@ -50,6 +49,11 @@ zeros p i j n z =
       remainder = rw (j, n);
       floored = λ h. rw (j, i) (z h);
     }
+
+-- of what has a minus sign only -0 is at least 0
+minus-zero : (m : ℕ) (e : ℤ) → T (le (decimal 0 0) (fin true m e)) → m * up e ≡ 0
+unfolding le round
+minus-zero m e t = omega (arith, eqb→eq (0 * down e) (m * up e * 1) (and-l (eqb (0 * down e) (m * up e * 1)) (eqb (0 * down e) 0) t))
 
 minus : (p : Float) → isSignMinus p ≡ true → (T (le (decimal 0 0) p) → 0 ≡ floor256 p) → Places p
 minus p h =

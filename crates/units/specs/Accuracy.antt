@@ -1,16 +1,13 @@
--- How close a ratio is to the power of two of its pitch, cut to a 256th of a semitone, over whole numbers; and the whole contract of `semitones_to_ratio`.
--- Definitions only.
+-- How close a ratio is to the power of two of its pitch, cut to a 256th of a semitone, over whole numbers. Definitions only.
 use mathlib.Core.Path.{_≡_}
-use mathlib.Core.Bool.{false, cond}
+use mathlib.Core.Bool.{false}
 use Prim.Native.Nat.{ℕ, _*_, _/_, _^_, _≤_}
 use lib.Dec.{T}
 use lib.IntN.{ℤ, pos, _+ℤ_, _-ℤ_}
 use lib.Ieee.{Float, nan, inf, fin, up, down, le, lt}
 use lib.Ieee.Exact.{HasValue}
 use Rattle.ieee754.specs.Single.{decimal}
-use Rattle.units.specs.Units.{pitchOf, semitonesToRatio, number}
-use Rattle.units.specs.declared.Ratio.{Ratio}
-use Rattle.units.specs.declared.Ratio.the-variants.{Of}
+use Rattle.units.specs.Units.{pitchOf}
 
 -- 256 * p without its fraction, for a finite p of at least 0: `fin s m e` is m * 2 ^ e in size, and 2 ^ e is up e / down e
 abbrev pub floor256 : Float → ℕ
@@ -22,11 +19,9 @@ floor256 (fin s m e) = 256 * (m * up e) / down e
 abbrev pub g : Float → ℤ
 g p = pos (floor256 p) -ℤ pos 32768
 
--- The answer is a ratio, R / 2 ^ 34 with a whole R, and differs from 2 ^ (g / 3072) by at most one part in 4194304.
+-- The ratio is R / 2 ^ 34 with a whole R, and differs from 2 ^ (g / 3072) by at most one part in 4194304.
 -- 104448 is 34 * 3072, and n is g + 104448.
-pub record Accurate (semitones : Float) (answer : Ratio) : Type 0 where
-  pub ratio : Float
-  pub given : answer ≡ Of ratio
+pub record Accurate (semitones ratio : Float) : Type 0 where
   pub R : ℕ
   pub whole : HasValue ratio false R (2 ^ 34)
   pub n : ℕ
@@ -37,9 +32,3 @@ pub record Accurate (semitones : Float) (answer : Ratio) : Type 0 where
 -- p is at least 0 and below 256
 abbrev pub InTables : Float → Type 0
 InTables p = T (le (decimal 0 0) p) × T (lt p (decimal 256 0))
-
--- all that `semitones_to_ratio` promises of its answer, for every input
-pub record Promised (semitones : Float) (answer : Ratio) : Type 0 where
-  pub exact : answer ≡ semitonesToRatio semitones
-  pub number-is : number answer ≡ cond (le (decimal 256 0) (pitchOf semitones)) 6 0
-  pub accurate : InTables (pitchOf semitones) → Accurate semitones answer

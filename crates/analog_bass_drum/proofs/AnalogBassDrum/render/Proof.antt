@@ -1,21 +1,9 @@
--- The number of the answer decides what the call leaves; an accepted one's knobs lie between their bounds.
+-- The number of the answer decides what the call leaves.
 use borrow.Author.Needs.{needs}
-use mathlib.Core.Path.{_≡_, refl}
-use Prim.Native.Nat.{ℕ}
-use lib.Ieee.{Float}
-use Rattle.refusal.proofs.ByNumber.{zero-of, suc-of, KnobsIn, block-passed}
-use Rattle.analog_bass_drum.specs.AnalogBassDrum.{renderRefusal}
+use mathlib.Core.Path.{refl}
+use Rattle.refusal.proofs.ByNumber.{zero-of, suc-of}
 use Rattle.analog_bass_drum.proofs.AnalogBassDrum.render.Statement.{statement}
 use Rattle.analog_bass_drum.proofs.AnalogBassDrum.render.Tie as tie
-
-knobs-in : (size : ℕ) (accent f0 tone decay a s : Float) → renderRefusal size accent f0 tone decay a s ≡ 0 → KnobsIn accent f0 tone decay a
-unfolding renderRefusal
-knobs-in size accent f0 tone decay a s h = block-passed size f0 accent tone decay a _ h .1
-
-new-requires : tie.Need-new-requires
-new-requires c κs =
-    let k = knobs-in _ _ _ _ _ _ _ (zero-of _ _ (c .before .before .asked .ensures) (c .enum-told2 .given .1)) in
-    (k .a-in, k .decay-in)
 
 refused : tie.Need-returns
 refused c = let known = c .before .before .asked .ensures in (known, rw (suc-of _ _ known _ (c .enum-told .given .1)) (refl, refl))
@@ -31,5 +19,5 @@ accepted c =
 pub render-spec : {M : Type 1} → statement M
 render-spec =
     tie.close
-    (tie.spec (λ c κs. search needs) (λ c. search needs) (λ c. search needs) new-requires (λ c κs. search needs) (λ c κs. search needs) refused
+    (tie.spec (λ c κs. search needs) (λ c. search needs) (λ c. search needs) (λ c κs. search needs) (λ c κs. search needs) (λ c κs. search needs) refused
     (λ c. search needs) accepted)

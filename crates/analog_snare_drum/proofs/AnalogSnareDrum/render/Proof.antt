@@ -1,21 +1,9 @@
--- The number of the answer decides what the call leaves; an accepted one's knobs lie between their bounds.
+-- The number of the answer decides what the call leaves.
 use borrow.Author.Needs.{needs}
-use mathlib.Core.Path.{_≡_, refl}
-use Prim.Native.Nat.{ℕ}
-use lib.Ieee.{Float}
-use Rattle.refusal.proofs.ByNumber.{zero-of, suc-of, KnobsIn, block-passed}
-use Rattle.analog_snare_drum.specs.AnalogSnareDrum.{renderRefusal}
+use mathlib.Core.Path.{refl}
+use Rattle.refusal.proofs.ByNumber.{zero-of, suc-of}
 use Rattle.analog_snare_drum.proofs.AnalogSnareDrum.render.Statement.{statement}
 use Rattle.analog_snare_drum.proofs.AnalogSnareDrum.render.Tie as tie
-
-knobs-in : (size : ℕ) (accent f0 tone decay snappy : Float) → renderRefusal size accent f0 tone decay snappy ≡ 0 → KnobsIn accent f0 tone decay snappy
-unfolding renderRefusal
-knobs-in size accent f0 tone decay snappy h = block-passed size f0 accent tone decay snappy _ h .1
-
-new-requires : tie.Need-new-requires
-new-requires c κs =
-    let k = knobs-in _ _ _ _ _ _ (zero-of _ _ (c .before .before .asked .ensures) (c .enum-told2 .given .1)) in
-    (k .decay-in, k .c-in)
 
 refused : tie.Need-returns
 refused c = let known = c .before .before .asked .ensures in (known, rw (suc-of _ _ known _ (c .enum-told .given .1)) (refl, (refl, refl)))
@@ -33,5 +21,5 @@ accepted c =
 pub render-spec : {M : Type 1} → statement M
 render-spec =
     tie.close
-    (tie.spec (λ c κs. search needs) (λ c. search needs) (λ c. search needs) new-requires (λ c κs. search needs) (λ c κs. search needs)
+    (tie.spec (λ c κs. search needs) (λ c. search needs) (λ c. search needs) (λ c κs. search needs) (λ c κs. search needs) (λ c κs. search needs)
     (λ c κs. search needs) refused (λ c. search needs) accepted)

@@ -1,30 +1,19 @@
--- The number of the answer decides what the call leaves; an accepted one's length and knobs lie between their bounds.
+-- The number of the answer decides what the call leaves; an accepted one's block is short.
 use borrow.Author.Needs.{needs}
 use mathlib.Core.Path.{_≡_, refl}
 use Prim.Native.Nat.{ℕ, _≤_}
-use native.Mathlib.Omega.{arith}
 use lib.Ieee.{Float}
-use Rattle.refusal.specs.Refusal.{isSampleRate}
-use Rattle.refusal.proofs.ByNumber.{zero-of, suc-of, passed, KnobsIn, block-passed}
+use Rattle.refusal.proofs.ByNumber.{zero-of, suc-of, short-block}
 use Rattle.synthetic_snare_drum.specs.SyntheticSnareDrum.{renderRefusal}
 use Rattle.synthetic_snare_drum.proofs.SyntheticSnareDrum.render.Statement.{statement}
 use Rattle.synthetic_snare_drum.proofs.SyntheticSnareDrum.render.Tie as tie
 
-knobs-in : (rate : Float) (size : ℕ) (accent f0 fm decay snappy : Float) → renderRefusal rate size accent f0 fm decay snappy ≡ 0
-    → (size ≤ 16384) × KnobsIn accent f0 fm decay snappy
+short : (rate : Float) (size : ℕ) (accent f0 fm decay snappy : Float) → renderRefusal rate size accent f0 fm decay snappy ≡ 0 → size ≤ 16384
 unfolding renderRefusal
-knobs-in rate size accent f0 fm decay snappy h =
-    block-passed size f0 accent fm decay snappy _ (passed (isSampleRate rate) 1 _ (omega arith) h .1)
-
-new-requires : tie.Need-new-requires
-new-requires c κs =
-    let k = knobs-in _ _ _ _ _ _ _ (zero-of _ _ (c .before .before .asked .ensures) (c .enum-told2 .given .1)) .1 in
-    (k .a-in, (k .decay-in, k .c-in))
+short rate size accent f0 fm decay snappy = short-block rate size _
 
 begun-requires : tie.Need-begun-requires
-begun-requires c κs =
-    let told = c .before in
-    knobs-in _ _ _ _ _ _ _ (zero-of _ _ (told .before .before .asked .ensures) (told .enum-told2 .given .1)) .0
+begun-requires c κs = let told = c .before in short _ _ _ _ _ _ _ (zero-of _ _ (told .before .before .asked .ensures) (told .enum-told2 .given .1))
 
 refused : tie.Need-returns
 refused c = let known = c .before .before .asked .ensures in (known, rw (suc-of _ _ known _ (c .enum-told .given .1)) (refl, (refl, refl)))
@@ -41,5 +30,5 @@ accepted c =
 pub render-spec : {M : Type 1} → statement M
 render-spec =
     tie.close
-    (tie.spec (λ c κs. search needs) (λ c. search needs) (λ c. search needs) new-requires begun-requires (λ c κs. search needs) (λ c κs. search needs)
+    (tie.spec (λ c κs. search needs) (λ c. search needs) (λ c. search needs) (λ c κs. search needs) begun-requires (λ c κs. search needs) (λ c κs. search needs)
     refused (λ c. search needs) accepted)

@@ -18,13 +18,9 @@ pub nan-unit : isUnit nan ≡ false
 unfolding isUnit within le round
 nan-unit = refl
 
-pub nan-bass-decay : isBassDecay nan ≡ false
-unfolding isBassDecay within le round
-nan-bass-decay = refl
-
-nan-decay : (voice : Voice) → isDecay voice nan ≡ false
-unfolding isDecay
-nan-decay Bass = nan-bass-decay
+pub nan-decay : (voice : Voice) → isDecay voice nan ≡ false
+unfolding isDecay isBassDecay within le round
+nan-decay Bass = refl
 nan-decay Snare = nan-unit
 nan-decay SyntheticSnare = nan-unit
 nan-decay Hihat = nan-unit

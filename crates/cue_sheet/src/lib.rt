@@ -1,7 +1,7 @@
 // A cue sheet: its lines read, and the questions that a sheet must pass. Nothing is stored: whoever renders a sheet reads its lines again.
 ghost use mathlib.Core.Path.{_≡_};
 ghost use lib.Ieee.{binary32, ofBits};
-ghost use Rattle.refusal.specs.Refusal.{answerNumber, isFrequency, isUnit, isBassDecay};
+ghost use Rattle.refusal.specs.Refusal.{answerNumber, isFrequency, isUnit};
 ghost use Rattle.text.specs.Read as Read;
 ghost use Rattle.cue_sheet.specs.CueLine as CueLine;
 ghost use Rattle.cue_sheet.specs.Sheet as Sheet;
@@ -120,17 +120,12 @@ fn is_unit(bits: u32) -> bool
 fn is_decay(voice: Voice, bits: u32) -> bool
     ensures { λ r. ⌜ r ≡ CueLine.isDecay voice (ofBits binary32 bits) ⌝ }
 {
-    match voice {
-        Voice::Bass => is_bass_decay(bits),
-        _ => is_unit(bits),
-    }
-}
-
-fn is_bass_decay(bits: u32) -> bool
-    ensures { λ r. ⌜ r ≡ isBassDecay (ofBits binary32 bits) ⌝ }
-{
     if ieee754::is_number(bits) {
-        refusal::is_bass_decay(f32::from_bits(bits))
+        let decay = f32::from_bits(bits);
+        match voice {
+            Voice::Bass => refusal::is_bass_decay(decay),
+            _ => refusal::is_unit(decay),
+        }
     } else {
         false
     }

@@ -11,7 +11,6 @@ ghost use Rattle.parameter_interpolator.specs.ParameterInterpolator as Interpol
 ghost use Rattle.utils.specs.Utils as Utils;
 use parameter_interpolator::ParameterInterpolator;
 use random::Draw;
-use units::Ratio;
 
 // Toward zero, held at the ends of the target; a NaN gives 0. So are the next two.
 #[no_mangle]
@@ -82,23 +81,12 @@ pub extern "C" fn bechullpi_random_get_float(state: u32) -> Draw
     random::get_float(state)
 }
 
-// The ratio of a pitch in semitones, or `otherwise` where the pitch is refused.
+// The ratio of a pitch in semitones, held from p = semitones + 128.0 = 256.0 on.
 #[no_mangle]
-pub extern "C" fn bechullpi_units_semitones_to_ratio(semitones: f32, otherwise: f32) -> f32
-    ensures { λ r. ⌜ r ≡ Units.unwrapOr (Units.semitonesToRatio semitones) otherwise ⌝ }
+pub extern "C" fn bechullpi_units_semitones_to_ratio(semitones: f32) -> f32
+    ensures { λ r. ⌜ r ≡ Units.ratio semitones ⌝ }
 {
-    units::semitones_to_ratio(semitones).unwrap_or(otherwise)
-}
-
-// 6 where a pitch is refused, else 0.
-#[no_mangle]
-pub extern "C" fn bechullpi_units_semitones_refusal(semitones: f32) -> u32
-    ensures { λ r. ⌜ r ≡ Units.number (Units.semitonesToRatio semitones) ⌝ }
-{
-    match units::semitones_to_ratio(semitones) {
-        Ratio::Of(_) => 0,
-        Ratio::Refused(refusal) => refusal.number(),
-    }
+    units::semitones_to_ratio(semitones)
 }
 
 // A value that reaches another in `size` equal steps.

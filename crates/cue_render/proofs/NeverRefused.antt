@@ -12,7 +12,7 @@ use lib.Ieee.Bits.{is-true}
 use borrow.Author.Tests.{le-leb}
 use Rattle.ieee754.specs.Single.{decimal}
 use Rattle.block.proofs.Blocks.{after-kept}
-use Rattle.refusal.specs.Refusal.{ask, askKnobs, isSampleRate, isBlockLength, isUnit, within, unlessRefused}
+use Rattle.refusal.specs.Refusal.{isSampleRate, isUnit, isBassDecay, within, unlessRefused}
 use Rattle.analog_bass_drum.specs.AnalogBassDrum as AnalogBassDrum
 use Rattle.analog_snare_drum.specs.AnalogSnareDrum as AnalogSnareDrum
 use Rattle.synthetic_snare_drum.specs.SyntheticSnareDrum as SyntheticSnareDrum
@@ -46,8 +46,8 @@ unfolding isSampleRate within ofInt
 sheet-rate rate length h = rw (whole-le 16000 rate (h .lowest) (omega (arith, h .highest)), whole-le rate 96000 (h .highest) (omega arith))
 
 -- ---- the knobs of what is struck have passed their questions
-abbrev Passed : Playing → Type 0
-Passed p = p .struck ≡ true → KnobsIn (p .knobs .accent) (p .knobs .f0) (p .knobs .a) (p .knobs .decay) (p .knobs .c)
+abbrev Passed : (Float → Bool) → Playing → Type 0
+Passed decays p = p .struck ≡ true → KnobsIn decays (p .knobs .accent) (p .knobs .f0) (p .knobs .a) (p .knobs .decay) (p .knobs .c)
 
 -- ---- the voices that store the rate keep it
 module _ (v : SyntheticSnare) (noise : ℕ) (accent f0 a decay c : Float) (n : ℕ) where
@@ -80,16 +80,12 @@ hihat-rate v noise trigger accent f0 a decay c n = go (hihat.renderRefusal (v .�
 
 -- ---- a kit that no voice of it refuses
 record Ready (k : Kit) : Type 0 where
-  bass : Passed (k .bass .playing)
-  snare : Passed (k .snare .playing)
-  synthetic-snare : Passed (k .«synthetic_snare» .playing)
-  hihat : Passed (k .hihat .playing)
+  bass : Passed isBassDecay (k .bass .playing)
+  snare : Passed isUnit (k .snare .playing)
+  synthetic-snare : Passed isUnit (k .«synthetic_snare» .playing)
+  hihat : Passed isUnit (k .hihat .playing)
   synthetic-rate : isSampleRate (k .«synthetic_snare» .voice .«sample_rate_hz») ≡ true
   hihat-rate : isSampleRate (k .hihat .voice .«sample_rate») ≡ true
-
-asked-all : (n : ℕ) (accent f0 a decay c : Float) (next : ℕ) → n ≤ 16384 → KnobsIn accent f0 a decay c
-    → ask (isBlockLength n) 2 (askKnobs f0 accent a decay c next) ≡ next
-asked-all n accent f0 a decay c next short k = rw (le-leb n 16384 short, k .frequency, k .accent-in, k .a-in, k .decay-in, k .c-in)
 
 zero-unit : isUnit (decimal 0 0) ≡ true
 unfolding isUnit within le round
@@ -97,12 +93,15 @@ zero-unit = refl
 
 ready-accepted : (k : Kit) (n : ℕ) → n ≤ 16384 → Ready k → SegmentAccepted k n
 unfolding AnalogBassDrum.renderRefusal AnalogSnareDrum.renderRefusal SyntheticSnareDrum.renderRefusal hihat.renderRefusal
-ready-accepted k n short r = record {
-  bass = λ struck. asked-all n _ _ _ _ _ _ short (r .bass struck) ∙ rw zero-unit;
-  snare = λ struck. asked-all n _ _ _ _ _ _ short (r .snare struck);
-  synthetic-snare = λ struck. rw (r .synthetic-rate) (asked-all n _ _ _ _ _ _ short (r .synthetic-snare struck));
-  hihat = λ struck. rw (r .hihat-rate) (asked-all n _ _ _ _ _ _ short (r .hihat struck));
-}
+ready-accepted k n short r =
+    let size = le-leb n 16384 short in
+    record {
+      bass = λ struck. let q = r .bass struck in rw (size, q .frequency, q .accent-in, q .a-in, q .c-in, zero-unit, q .decay-in);
+      snare = λ struck. let q = r .snare struck in rw (size, q .frequency, q .accent-in, q .a-in, q .decay-in, q .c-in);
+      synthetic-snare =
+          λ struck. let q = r .synthetic-snare struck in rw (r .synthetic-rate, size, q .frequency, q .accent-in, q .a-in, q .decay-in, q .c-in);
+      hihat = λ struck. let q = r .hihat struck in rw (r .hihat-rate, size, q .frequency, q .accent-in, q .a-in, q .decay-in, q .c-in);
+    }
 
 -- ---- it starts so, and stays so
 start-ready : (rate : ℕ) → isSampleRate (ofInt binary32 (pos rate)) ≡ true → Ready (start rate)
@@ -139,10 +138,10 @@ segment-ready k n r =
     let y-rate = synthetic-rate (k .«synthetic_snare» .voice) _ (y .knobs .accent) (y .knobs .f0) (y .knobs .a) (y .knobs .decay) (y .knobs .c) n (y .trigger) in
     let h-rate = hihat-rate (k .hihat .voice) _ (h .trigger) (h .knobs .accent) (h .knobs .f0) (h .knobs .a) (h .knobs .decay) (h .knobs .c) n in
     record {
-      bass = either (λ (p : BassPart). Passed (p .playing)) (k .bass .playing .struck) _ _ (r .bass) (r .bass);
-      snare = either (λ (p : SnarePlayed). Passed (p .part .playing)) (k .snare .playing .struck) _ _ (r .snare) (r .snare);
-      synthetic-snare = either (λ (p : SyntheticSnarePlayed). Passed (p .part .playing)) (y .struck) _ _ (r .synthetic-snare) (r .synthetic-snare);
-      hihat = either (λ (p : HihatPlayed). Passed (p .part .playing)) (h .struck) _ _ (r .hihat) (r .hihat);
+      bass = either (λ (p : BassPart). Passed isBassDecay (p .playing)) (k .bass .playing .struck) _ _ (r .bass) (r .bass);
+      snare = either (λ (p : SnarePlayed). Passed isUnit (p .part .playing)) (k .snare .playing .struck) _ _ (r .snare) (r .snare);
+      synthetic-snare = either (λ (p : SyntheticSnarePlayed). Passed isUnit (p .part .playing)) (y .struck) _ _ (r .synthetic-snare) (r .synthetic-snare);
+      hihat = either (λ (p : HihatPlayed). Passed isUnit (p .part .playing)) (h .struck) _ _ (r .hihat) (r .hihat);
       synthetic-rate =
           either (λ (p : SyntheticSnarePlayed). isSampleRate (p .part .voice .«sample_rate_hz») ≡ true) (y .struck) _ _
           (ap isSampleRate y-rate ∙ r .synthetic-rate) (r .synthetic-rate);

@@ -7,7 +7,7 @@ use mathlib.Core.List.{List, _∷_}
 use lib.Dec.{ltb, leb}
 use lib.Ieee.{Float}
 use borrow.Author.Tests.{lt-ltb, ltb-true, leb-true}
-use Rattle.refusal.specs.Refusal.{number, answerNumber, isFrequency, isUnit}
+use Rattle.refusal.specs.Refusal.{number, answerNumber, isFrequency, isUnit, isBassDecay}
 use Rattle.refusal.specs.declared.Refusal.{Refusal}
 use Rattle.refusal.specs.declared.Answer.{Answer}
 use Rattle.refusal.specs.declared.Answer.the-variants.{Accepted, Refused}
@@ -23,22 +23,22 @@ use Rattle.cue_sheet.specs.declared.CueFields.{CueFields}
 use Rattle.cue_sheet.specs.declared.Fields.{Fields}
 use Rattle.cue_sheet.specs.declared.Fields.the-variants.{Read, Malformed}
 
--- the knobs of a voice, each of which has passed its question
-pub record KnobsIn (voice : Voice) (accent f0 a decay c : Float) : Type 0 where
+-- knobs that have passed their questions; `decays` is that of decay
+pub record KnobsIn (decays : Float → Bool) (accent f0 a decay c : Float) : Type 0 where
   pub frequency : isFrequency f0 ≡ true
   pub accent-in : isUnit accent ≡ true
   pub a-in : isUnit a ≡ true
-  pub decay-in : isDecay voice decay ≡ true
+  pub decay-in : decays decay ≡ true
   pub c-in : isUnit c ≡ true
 
 abbrev pub KnobsOf : Cue → Type 0
-KnobsOf (Bass accent f0 tone decay attackFmAmount) = KnobsIn Voice.Bass accent f0 tone decay attackFmAmount
-KnobsOf (Snare accent f0 tone decay snappy) = KnobsIn Voice.Snare accent f0 tone decay snappy
-KnobsOf (SyntheticSnare accent f0 fmAmount decay snappy) = KnobsIn Voice.SyntheticSnare accent f0 fmAmount decay snappy
-KnobsOf (Hihat accent f0 tone decay noisiness) = KnobsIn Voice.Hihat accent f0 tone decay noisiness
+KnobsOf (Bass accent f0 tone decay attackFmAmount) = KnobsIn isBassDecay accent f0 tone decay attackFmAmount
+KnobsOf (Snare accent f0 tone decay snappy) = KnobsIn isUnit accent f0 tone decay snappy
+KnobsOf (SyntheticSnare accent f0 fmAmount decay snappy) = KnobsIn isUnit accent f0 fmAmount decay snappy
+KnobsOf (Hihat accent f0 tone decay noisiness) = KnobsIn isUnit accent f0 tone decay noisiness
 
 pub knobs-in : (v : Voice) (k : Patterns) → knobsRefusal v k ≡ 0
-    → KnobsIn v (float (k .accent)) (float (k .f0)) (float (k .a)) (float (k .decay)) (float (k .c))
+    → KnobsIn (isDecay v) (float (k .accent)) (float (k .f0)) (float (k .a)) (float (k .decay)) (float (k .c))
 unfolding knobsRefusal
 knobs-in v k h =
     let third = passed (isFrequency _) 3 _ (omega arith) h in
@@ -49,7 +49,7 @@ knobs-in v k h =
     record { frequency = third .0; accent-in = fourth .0; a-in = x .0; decay-in = y .0; c-in = z .0 }
 
 cue-knobs : (v : Voice) (k : Patterns) → knobsRefusal v k ≡ 0 → KnobsOf (cueOf v k)
-unfolding cueOf
+unfolding cueOf isDecay
 cue-knobs Voice.Bass k h = knobs-in Voice.Bass k h
 cue-knobs Voice.Snare k h = knobs-in Voice.Snare k h
 cue-knobs Voice.SyntheticSnare k h = knobs-in Voice.SyntheticSnare k h

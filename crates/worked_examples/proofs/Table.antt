@@ -9,8 +9,7 @@ use Rattle.ieee754.specs.Root.{sqrt}
 use Rattle.block.specs.Block.{after}
 use Rattle.random.specs.Random.{getWord, getFloat}
 use Rattle.units.specs.Tables.{«LUT_PITCH_RATIO_HIGH», «LUT_PITCH_RATIO_LOW»}
-use Rattle.units.specs.Units.{ratio, semitonesToRatio, number}
-use Rattle.units.specs.declared.Ratio.the-variants.{Of}
+use Rattle.units.specs.Units.{ratio}
 use Rattle.utils.specs.Utils.{softLimit, softClip}
 use Rattle.hihat.specs.SquareNoise.{ratios, increment, increments, advanced, countHigh}
 use Rattle.hihat.specs.SquareNoise as SquareNoise
@@ -34,38 +33,38 @@ unfolding getFloat getWord ofInt div round
 word-4294967168 = refl
 
 -- pitches; 3a214518 is the first entry of the upper table
-semitones-0 : semitonesToRatio (decimal 0 0) ≡ Of (ofBits binary32 0x3f800000)
-unfolding semitonesToRatio ratio «LUT_PITCH_RATIO_HIGH» «LUT_PITCH_RATIO_LOW» round ofBits add sub mul le ofInt toUnsigned
+semitones-0 : ratio (decimal 0 0) ≡ ofBits binary32 0x3f800000
+unfolding ratio «LUT_PITCH_RATIO_HIGH» «LUT_PITCH_RATIO_LOW» round ofBits add sub mul le ofInt toUnsigned
 semitones-0 = refl
 
-semitones-12 : semitonesToRatio (decimal 12 0) ≡ Of (ofBits binary32 0x40000000)
-unfolding semitonesToRatio ratio «LUT_PITCH_RATIO_HIGH» «LUT_PITCH_RATIO_LOW» round ofBits add sub mul le ofInt toUnsigned
+semitones-12 : ratio (decimal 12 0) ≡ ofBits binary32 0x40000000
+unfolding ratio «LUT_PITCH_RATIO_HIGH» «LUT_PITCH_RATIO_LOW» round ofBits add sub mul le ofInt toUnsigned
 semitones-12 = refl
 
 first-entry : getD «LUT_PITCH_RATIO_HIGH» 0 nan ≡ ofBits binary32 0x3a214518
 unfolding «LUT_PITCH_RATIO_HIGH» round ofBits
 first-entry = refl
 
-semitones-minus-128 : semitonesToRatio (neg (decimal 128 0)) ≡ Of (ofBits binary32 0x3a214518)
-unfolding semitonesToRatio ratio «LUT_PITCH_RATIO_HIGH» «LUT_PITCH_RATIO_LOW» round ofBits add sub mul neg le ofInt toUnsigned
+semitones-minus-128 : ratio (neg (decimal 128 0)) ≡ ofBits binary32 0x3a214518
+unfolding ratio «LUT_PITCH_RATIO_HIGH» «LUT_PITCH_RATIO_LOW» round ofBits add sub mul neg le ofInt toUnsigned
 semitones-minus-128 = refl
 
-semitones-minus-129 : semitonesToRatio (neg (decimal 129 0)) ≡ Of (ofBits binary32 0x3a214518)
-unfolding semitonesToRatio ratio «LUT_PITCH_RATIO_HIGH» «LUT_PITCH_RATIO_LOW» round ofBits add sub mul neg le ofInt toUnsigned
+semitones-minus-129 : ratio (neg (decimal 129 0)) ≡ ofBits binary32 0x3a214518
+unfolding ratio «LUT_PITCH_RATIO_HIGH» «LUT_PITCH_RATIO_LOW» round ofBits add sub mul neg le ofInt toUnsigned
 semitones-minus-129 = refl
 
-semitones-nan : semitonesToRatio nan ≡ Of (ofBits binary32 0x3a214518)
-unfolding semitonesToRatio ratio «LUT_PITCH_RATIO_HIGH» «LUT_PITCH_RATIO_LOW» round ofBits add sub mul le ofInt toUnsigned
+semitones-nan : ratio nan ≡ ofBits binary32 0x3a214518
+unfolding ratio «LUT_PITCH_RATIO_HIGH» «LUT_PITCH_RATIO_LOW» round ofBits add sub mul le ofInt toUnsigned
 semitones-nan = refl
 
--- 128 - 2^-16, the last pitch that is accepted, and 128 - 2^-17, whose sum with 128 rounds to 256
-semitones-last : semitonesToRatio (decimal 128 0 ⊖ decimal 152587890625 16) ≡ Of (ofBits binary32 0x44cb243a)
-unfolding semitonesToRatio ratio «LUT_PITCH_RATIO_HIGH» «LUT_PITCH_RATIO_LOW» round ofBits add sub mul le ofInt toUnsigned
+-- 128 - 2^-16, whose pitch is the last below 256, and 128 - 2^-17, whose sum with 128 rounds to 256: the ratio is held
+semitones-last : ratio (decimal 128 0 ⊖ decimal 152587890625 16) ≡ ofBits binary32 0x44cb243a
+unfolding ratio «LUT_PITCH_RATIO_HIGH» «LUT_PITCH_RATIO_LOW» round ofBits add sub mul le ofInt toUnsigned
 semitones-last = refl
 
-semitones-past : number (semitonesToRatio (decimal 128 0 ⊖ decimal 762939453125 17)) ≡ 6
-unfolding semitonesToRatio round add sub le
-semitones-past = refl
+semitones-held : ratio (decimal 128 0 ⊖ decimal 762939453125 17) ≡ ofBits binary32 0x44cb243a
+unfolding ratio «LUT_PITCH_RATIO_HIGH» «LUT_PITCH_RATIO_LOW» round ofBits add sub mul le ofInt toUnsigned
+semitones-held = refl
 
 root-2 : sqrt binary32 (decimal 2 0) ≡ ofBits binary32 0x3fb504f3
 unfolding sqrt round ofBits

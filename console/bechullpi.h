@@ -145,11 +145,8 @@ uint32_t bechullpi_random_get_word(uint32_t state);
 // A value from 0.0 to 1.0, both included, and the word drawn, which is the next state.
 bechullpi_draw bechullpi_random_get_float(uint32_t state);
 
-// The ratio of a pitch in semitones, or `otherwise` where the pitch is refused.
-float bechullpi_units_semitones_to_ratio(float semitones, float otherwise);
-
-// 6 where a pitch is refused, else 0.
-uint32_t bechullpi_units_semitones_refusal(float semitones);
+// The ratio of a pitch in semitones, held from p = semitones + 128.0 = 256.0 on.
+float bechullpi_units_semitones_to_ratio(float semitones);
 
 // A value that reaches another in `size` equal steps.
 bechullpi_parameter_interpolator bechullpi_parameter_interpolator_new(float value, float new_value, uint32_t size);

@@ -53,8 +53,7 @@ static size_t sheet_bytes;
     CALL(ieee754_maximum_magnitude_number_f64, (1.5, 2.5)) \
     CALL(random_get_word, (33)) \
     CALL(random_get_float, (33)) \
-    CALL(units_semitones_to_ratio, (7.0f, 0.0f)) \
-    CALL(units_semitones_refusal, (7.0f)) \
+    CALL(units_semitones_to_ratio, (7.0f)) \
     CALL(parameter_interpolator_new, (0.0f, 1.0f, 64)) \
     CALL(parameter_interpolator_next, (interpolator)) \
     CALL(utils_one_pole, (0.5f, 1.0f, 0.1f)) \

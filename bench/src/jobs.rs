@@ -196,7 +196,7 @@ fn ratios() -> Job {
     let mut r = Random::new(1);
     let pitches = (0..CALLS).map(|_| r.unit() * 254.0 - 127.0).collect();
     extern "C" fn port(semitones: f32) -> f32 {
-        port::bechullpi_units_semitones_to_ratio(semitones, 0.0)
+        port::bechullpi_units_semitones_to_ratio(semitones)
     }
     calls("semitones_to_ratio", pitches, port, units::semitones_to_ratio)
 }

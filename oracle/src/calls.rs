@@ -1,6 +1,6 @@
 //! Random calls: scripts of a few calls each, with the edges of every range more often than chance would have them.
 use crate::row::{Kind, Row};
-use crate::voices::LEAST_F0;
+use crate::voices::{LAST_BASS_DECAY, LEAST_F0};
 
 /// xorshift64: the same calls for the same seed.
 pub struct Random(u64);
@@ -63,6 +63,19 @@ pub fn knob(r: &mut Random) -> f32 {
     }
 }
 
+/// A bass rings longer than the other voices: up to 2.0.
+pub fn decay(r: &mut Random, voice: char) -> f32 {
+    if voice != 'b' {
+        return knob(r);
+    }
+    match r.below(8) {
+        0 => r.of(&[1.0f32.next_up(), 2.0, 2.0f32.next_down()]),
+        1 => r.of(&[LAST_BASS_DECAY, LAST_BASS_DECAY.next_up()]),
+        2 | 3 => 2.0 * r.unit(),
+        _ => knob(r),
+    }
+}
+
 fn outside(r: &mut Random) -> f32 {
     r.of(&[f32::NAN, f32::INFINITY, f32::NEG_INFINITY, -1e-45, 1.0000001, -1.0, 2.0, f32::from_bits(0x357f_ffff), f32::from_bits(0x3f00_0001)])
 }
@@ -101,10 +114,10 @@ fn row(r: &mut Random, voice: char, kind: Kind, longest: u32) -> Row {
         Kind::Render => {
             row.flags = (r.word() & 0x1f) as u8;
             row.samples = length(r, longest);
-            row.knobs = [knob(r), f0(r), knob(r), knob(r), knob(r), if voice == 'b' { knob(r) } else { 0.0 }];
+            row.knobs = [knob(r), f0(r), knob(r), decay(r, voice), knob(r), if voice == 'b' { knob(r) } else { 0.0 }];
             if r.one_in(8) {
                 let which = r.below(if voice == 'b' { 6 } else { 5 }) as usize;
-                row.knobs[which] = outside(r);
+                row.knobs[which] = if voice == 'b' && r.one_in(4) { 2.0f32.next_up() } else { outside(r) };
             }
         }
     }

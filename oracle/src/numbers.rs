@@ -26,20 +26,18 @@ fn of_one_pattern(count: u64) -> u64 {
         + sweep("semitones_to_ratio", count, |bits| same_ratio(float(bits)))
 }
 
-/// A panic of the published Rust is refusal 6 here. A panic takes microseconds: of the refused pitches, one in 32 is put to the Rust, the least (42ffffff) and
-/// the infinity among them; of the others it is only asked whether the place that the Rust would read is past the end.
+/// Where the published Rust panics the ratio is held: it is the Rust's own for the last pitch that has a place (42fffffe). A panic takes microseconds: of the
+/// held pitches one in 32 is put to the Rust, the least (42ffffff) and the infinity among them; of the others it is only asked whether the place that the Rust
+/// would read is past the end.
 fn same_ratio(semitones: f32) -> bool {
+    let port = port::bechullpi_units_semitones_to_ratio(semitones);
     let rust = || catch_unwind(|| units::semitones_to_ratio(semitones));
-    let port = |otherwise| port::bechullpi_units_semitones_to_ratio(semitones, otherwise);
-    match port::bechullpi_units_semitones_refusal(semitones) {
-        0 => rust().is_ok_and(|ratio| same(port(0.0), ratio)),
-        6 => {
-            let run = matches!(semitones.to_bits() % 64, 0 | 63);
-            let panics = if run { rust().is_err() } else { (semitones + 128.0) as usize >= 256 };
-            panics && same(port(0.5), 0.5)
-        }
-        _ => false,
+    if ((semitones + 128.0) as usize) < 256 {
+        return rust().is_ok_and(|ratio| same(port, ratio));
     }
+    let put_to_the_rust = matches!(semitones.to_bits() % 64, 0 | 63);
+    let held = units::semitones_to_ratio(f32::from_bits(0x42ff_fffe));
+    same(port, held) && (!put_to_the_rust || rust().is_err())
 }
 
 fn of_several(random: u32) -> u64 {

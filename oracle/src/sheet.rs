@@ -1,7 +1,7 @@
 //! A second reading of the cue sheet, from the scope, over the published voices: what `cues` must print for an input.
 use crate::row::{Kind, RESONANCE, Row, TRIGGER};
 use crate::state::pattern;
-use crate::voices::{Voices, is_f0, is_unit, noise_state};
+use crate::voices::{Voices, is_decay, is_f0, is_unit, noise_state};
 use mi_plaits_dsp::utils::random;
 
 struct Cue {
@@ -103,7 +103,7 @@ fn cue(sheet: &Sheet, line: &[u8]) -> Result<Cue, u32> {
         Err(3)
     } else if !is_unit(accent) {
         Err(4)
-    } else if ![a, decay, c].into_iter().all(is_unit) {
+    } else if !is_unit(a) || !is_decay(cue.voice, decay) || !is_unit(c) {
         Err(5)
     } else {
         Ok(cue)

@@ -1,5 +1,5 @@
 //! Random and damaged sheets, and what the compiled `cues` prints for them.
-use crate::calls::{Random, f0, knob};
+use crate::calls::{Random, decay, f0, knob};
 use crate::port;
 use crate::sheet::{rendered, text};
 use crate::state::pattern;
@@ -79,12 +79,12 @@ fn sheet(r: &mut Random) -> Vec<u8> {
 }
 
 fn cue_line(r: &mut Random, start: u32) -> String {
-    let mut knobs = [knob(r), f0(r), knob(r), knob(r), knob(r)];
+    let voice = r.of(&['b', 's', 'y', 'h']);
+    let mut knobs = [knob(r), f0(r), knob(r), decay(r, voice), knob(r)];
     if r.one_in(30) {
         let which = r.below(5) as usize;
-        knobs[which] = r.of(&[f32::NAN, -1.0, 1.5, f32::INFINITY]);
+        knobs[which] = r.of(&[f32::NAN, -1.0, 1.5, 2.0f32.next_up(), f32::INFINITY]);
     }
-    let voice = r.of(&['b', 's', 'y', 'h']);
     let fields: String = knobs.iter().map(|x| format!(",{:08x}", pattern(*x))).collect();
     format!("{start},{voice}{fields}\n")
 }

@@ -12,6 +12,10 @@ use mi_plaits_dsp::utils::random;
 
 pub const LEAST_F0: f32 = 1.0 / 1048576.0;
 
+/// The last decay at which the published bass does not panic, its pitch having the last place in both tables. From the next on the port holds the ratio of that
+/// place; an unsustained bass reads decay nowhere else, so there the published one is played at this decay.
+pub const LAST_BASS_DECAY: f32 = f32::from_bits(0x3fcc_cccb);
+
 fn is_rate(x: f32) -> bool {
     (16000.0..=96000.0).contains(&x)
 }
@@ -22,6 +26,10 @@ pub fn is_f0(x: f32) -> bool {
 
 pub fn is_unit(x: f32) -> bool {
     (0.0..=1.0).contains(&x)
+}
+
+pub fn is_decay(voice: char, x: f32) -> bool {
+    if voice == 'b' { (0.0..=2.0).contains(&x) } else { is_unit(x) }
 }
 
 /// The state of the published noise generator, which can be seeded but not read: the next word is undone.
@@ -123,7 +131,7 @@ impl Voices {
             Kind::Render if row.samples > 16384 => 2,
             Kind::Render if !is_f0(f0) => 3,
             Kind::Render if !is_unit(accent) => 4,
-            Kind::Render if ![a, decay, c].into_iter().all(is_unit) => 5,
+            Kind::Render if !is_unit(a) || !is_decay(row.voice, decay) || !is_unit(c) => 5,
             Kind::Render if row.voice == 'b' && !is_unit(self_fm_amount) => 5,
             Kind::Render => 0,
         }
@@ -157,7 +165,7 @@ impl Voices {
         let [accent, f0, a, decay, c, self_fm_amount] = row.knobs;
         let (sustain, trigger) = (row.flag(SUSTAIN), row.flag(TRIGGER));
         match row.voice {
-            'b' => self.b.render(false, trigger, accent, f0, a, decay, c, self_fm_amount, out),
+            'b' => self.b.render(false, trigger, accent, f0, a, decay.min(LAST_BASS_DECAY), c, self_fm_amount, out),
             's' => self.s.render(false, trigger, accent, f0, a, decay, c, out),
             'y' => self.y.render(sustain, trigger, accent, f0, a, decay, c, out),
             _ => {

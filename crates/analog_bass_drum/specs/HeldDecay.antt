@@ -1,0 +1,30 @@
+-- Past the tables' end a longer decay changes nothing: from 3fcccccc (1.5999999) on a call is that with 3fcccccb, the last decay whose pitch has a place
+-- in them and the last for which the Rust does not panic. Definitions only.
+use Prim.Native.Nat.{ℕ}
+use mathlib.Core.Path.{_≡_}
+use mathlib.Core.Bool.{Bool}
+use mathlib.Core.List.{List}
+use lib.Dec.{T}
+use lib.Ieee.{Float, binary32, ofBits}
+use Rattle.ieee754.specs.Single.{decimal}
+use Rattle.refusal.specs.Refusal.{within}
+use Rattle.analog_bass_drum.specs.AnalogBassDrum.{renderRefusal, render, renderOut}
+use Rattle.analog_bass_drum.specs.declared.AnalogBassDrum.{AnalogBassDrum}
+
+abbrev pub lastInTables : Float
+lastInTables = ofBits binary32 0x3fcccccb
+
+abbrev pub firstPast : Float
+firstPast = ofBits binary32 0x3fcccccc
+
+-- every call with one of two decays answers, leaves and fills what it does with the other
+pub record AlikeIn (decay other : Float) (accent f0 tone attackFmAmount selfFmAmount : Float) : Type 0 where
+  pub number : (size : ℕ) → renderRefusal size accent f0 tone decay attackFmAmount selfFmAmount ≡ renderRefusal size accent f0 tone other attackFmAmount selfFmAmount
+  pub voice : (v : AnalogBassDrum) (trigger : Bool) (size : ℕ)
+      → render v trigger accent f0 tone decay attackFmAmount selfFmAmount size ≡ render v trigger accent f0 tone other attackFmAmount selfFmAmount size
+  pub out : (v : AnalogBassDrum) (trigger : Bool) (out : List Float)
+      → renderOut v trigger accent f0 tone decay attackFmAmount selfFmAmount out ≡ renderOut v trigger accent f0 tone other attackFmAmount selfFmAmount out
+
+abbrev pub HeldDecay : Type 0
+HeldDecay = (decay accent f0 tone attackFmAmount selfFmAmount : Float) → T (within firstPast (decimal 2 0) decay)
+    → AlikeIn decay lastInTables accent f0 tone attackFmAmount selfFmAmount

@@ -186,9 +186,7 @@ turn b v = let next = step b v in record { sample = next .«tone_lp»; next = ne
 -- the number of the first question that is not passed; 0 where all are
 unfoldable pub renderRefusal : ℕ → Float → Float → Float → Float → Float → Float → ℕ
 renderRefusal size accent f0 tone decay attackFmAmount selfFmAmount =
-    askBlock size f0 accent tone attackFmAmount selfFmAmount
-    (ask (isBassDecay decay) 5
-    0)
+    askBlock size f0 accent tone attackFmAmount selfFmAmount (ask (isBassDecay decay) 5 0)
 
 -- the voice after the call
 abbrev pub render : AnalogBassDrum → Bool → Float → Float → Float → Float → Float → Float → ℕ → AnalogBassDrum

@@ -18,7 +18,7 @@ abbrev pub firstPast : Float
 firstPast = ofBits binary32 0x3fcccccc
 
 -- every call with one of two decays answers, leaves and fills what it does with the other
-pub record AlikeIn (decay other : Float) (accent f0 tone attackFmAmount selfFmAmount : Float) : Type 0 where
+pub record SameCalls (decay other : Float) (accent f0 tone attackFmAmount selfFmAmount : Float) : Type 0 where
   pub number : (size : ℕ) → renderRefusal size accent f0 tone decay attackFmAmount selfFmAmount ≡ renderRefusal size accent f0 tone other attackFmAmount selfFmAmount
   pub voice : (v : AnalogBassDrum) (trigger : Bool) (size : ℕ)
       → render v trigger accent f0 tone decay attackFmAmount selfFmAmount size ≡ render v trigger accent f0 tone other attackFmAmount selfFmAmount size
@@ -27,4 +27,4 @@ pub record AlikeIn (decay other : Float) (accent f0 tone attackFmAmount selfFmAm
 
 abbrev pub HeldDecay : Type 0
 HeldDecay = (decay accent f0 tone attackFmAmount selfFmAmount : Float) → T (within firstPast (decimal 2 0) decay)
-    → AlikeIn decay lastInTables accent f0 tone attackFmAmount selfFmAmount
+    → SameCalls decay lastInTables accent f0 tone attackFmAmount selfFmAmount

@@ -1,4 +1,4 @@
--- The question of the last knob after those of every block.
+-- The question of decay after those of every block.
 use borrow.Author.Needs.{needs}
 use Rattle.analog_bass_drum.specs.AnalogBassDrum.{renderRefusal}
 use Rattle.analog_bass_drum.proofs.asked.Statement.{statement}

@@ -352,13 +352,14 @@ impl Settings {
     fn new(f0: f32, tone: f32, decay: f32, attack_fm_amount: f32, self_fm_amount: f32) -> Self
         ensures { λ r. ⌜ r ≡ spec.settings f0 tone decay «attack_fm_amount» «self_fm_amount» ⌝ }
     {
-        let decay_ratio = units::semitones_to_ratio(decay * 80.0);
-        let tone_ratio = units::semitones_to_ratio(tone * 108.0);
         Settings {
             f0,
             scale: 0.001 / f0,
-            q: 1500.0 * decay_ratio,
-            tone_f: ieee754::minimum_number(4.0 * f0 * tone_ratio, 1.0),
+            q: 1500.0 * units::semitones_to_ratio(decay * 80.0),
+            tone_f: ieee754::minimum_number(
+                4.0 * f0 * units::semitones_to_ratio(tone * 108.0),
+                1.0,
+            ),
             exciter_leak: 0.08 * (tone + 0.25),
             attack_fm_amount,
             self_fm_amount,

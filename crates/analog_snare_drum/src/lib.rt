@@ -404,15 +404,13 @@ impl Settings {
         ensures { λ r. ⌜ r ≡ spec.settings tone decay snappy ⌝ }
     {
         let decay_xt = decay * (1.0 + decay * (decay - 1.0));
-        let q_ratio = units::semitones_to_ratio(decay_xt * 84.0);
-        let noise_ratio = units::semitones_to_ratio(-decay * (50.0 + snappy * 10.0));
-        let gain = gains(tone);
         Settings {
-            q: 2000.0 * q_ratio,
-            noise_envelope_decay: 1.0 - 0.0017 * noise_ratio,
+            q: 2000.0 * units::semitones_to_ratio(decay_xt * 84.0),
+            noise_envelope_decay: 1.0
+                - 0.0017 * units::semitones_to_ratio(-decay * (50.0 + snappy * 10.0)),
             exciter_leak: snappy * (2.0 - snappy) * 0.1,
             snappy: ieee754::clamp(snappy * 1.1 - 0.05, 0.0, 1.0),
-            gain,
+            gain: gains(tone),
         }
     }
 }

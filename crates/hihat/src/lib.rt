@@ -264,16 +264,13 @@ fn block_settings(
 ) -> Settings
     ensures { λ r. ⌜ r ≡ spec.settings f0 decay noisiness sustain «vca_type» «two_stage_envelope» ⌝ }
 {
-    let envelope_ratio = units::semitones_to_ratio(-decay * 84.0);
-    let cut_ratio = units::semitones_to_ratio(-decay * 36.0);
-    let increment = square_noise::increments(2.0 * f0);
     let squared = noisiness * noisiness;
     Settings {
-        increment,
+        increment: square_noise::increments(2.0 * f0),
         noisiness: squared,
         noise_f: ieee754::clamp(f0 * (16.0 + 16.0 * (1.0 - squared)), 0.0, 0.5),
-        envelope_decay: 1.0 - 0.003 * envelope_ratio,
-        cut_decay: 1.0 - 0.0025 * cut_ratio,
+        envelope_decay: 1.0 - 0.003 * units::semitones_to_ratio(-decay * 84.0),
+        cut_decay: 1.0 - 0.0025 * units::semitones_to_ratio(-decay * 36.0),
         sustain,
         vca_type,
         two_stage_envelope,

@@ -269,17 +269,19 @@ impl Settings {
     {
         let decay_xt = decay * (1.0 + decay * (decay - 1.0));
         let fm_squared = fm_amount * fm_amount;
-        let drum_ratio = units::semitones_to_ratio(
-            -decay_xt * 72.0 - fm_squared * 12.0 + snappy * 7.0,
-        );
-        let snare_ratio = units::semitones_to_ratio(-decay * 60.0 - snappy * 7.0);
         let clamped = ieee754::clamp(snappy * 1.1 - 0.05, 0.0, 1.0);
         Settings {
             sustain,
             f0,
             fm_amount: fm_squared,
-            drum_decay: 1.0 - 1.0 / (0.015 * sample_rate_hz) * drum_ratio,
-            snare_decay: 1.0 - 1.0 / (0.01 * sample_rate_hz) * snare_ratio,
+            drum_decay: 1.0
+                - 1.0 / (0.015 * sample_rate_hz)
+                    * units::semitones_to_ratio(
+                        -decay_xt * 72.0 - fm_squared * 12.0 + snappy * 7.0,
+                    ),
+            snare_decay: 1.0
+                - 1.0 / (0.01 * sample_rate_hz)
+                    * units::semitones_to_ratio(-decay * 60.0 - snappy * 7.0),
             fm_decay: 1.0 - 1.0 / (0.007 * sample_rate_hz),
             snappy: clamped,
             drum_level: utils::sqrt(1.0 - clamped),

@@ -8,9 +8,9 @@ use Rattle.hihat.proofs.block_settings.Tie as tie
 returns : tie.Need-returns
 unfolding settings round ofBits
 returns c =
-    let at-increments = c .before in
-    let at-cut = at-increments .before in
-    rw (c .clamp .ensures, at-increments .increments .ensures, at-cut .semitones-to-ratio2 .ensures .0, at-cut .before .semitones-to-ratio .ensures .0)
+    let at-envelope = c .before in
+    let at-clamp = at-envelope .before in
+    rw (c .semitones-to-ratio2 .ensures .0, at-envelope .semitones-to-ratio .ensures .0, at-clamp .clamp .ensures, at-clamp .before .increments .ensures)
 
 pub block-settings-spec : {M : Type 1} → statement M
 block-settings-spec =

@@ -8,9 +8,9 @@ use Rattle.analog_snare_drum.proofs.Settings.new.Tie as tie
 returns : tie.Need-returns
 unfolding settings round ofBits
 returns c =
-    let at-gains = c .before in
-    let at-noise = at-gains .before in
-    rw (c .clamp .ensures, at-gains .gains .ensures, at-noise .semitones-to-ratio2 .ensures .0, at-noise .before .semitones-to-ratio .ensures .0)
+    let at-clamp = c .before in
+    let at-noise = at-clamp .before in
+    rw (c .gains .ensures, at-clamp .clamp .ensures, at-noise .semitones-to-ratio2 .ensures .0, at-noise .before .semitones-to-ratio .ensures .0)
 
 pub new-spec : {M : Type 1} → statement M
 new-spec =

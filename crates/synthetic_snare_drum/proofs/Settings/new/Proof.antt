@@ -8,10 +8,11 @@ use Rattle.synthetic_snare_drum.proofs.Settings.new.Tie as tie
 returns : tie.Need-returns
 unfolding settings round ofBits
 returns c =
-    let at-clamp = c .before .before in
-    let at-snare = at-clamp .before in
-    rw (c .sqrt2 .ensures, c .before .sqrt .ensures, at-clamp .clamp .ensures)
-    (rw (at-snare .semitones-to-ratio2 .ensures .0, at-snare .before .semitones-to-ratio .ensures .0))
+    let at-level = c .before in
+    let at-snare = at-level .before in
+    let at-drum = at-snare .before in
+    rw (c .sqrt2 .ensures, at-level .sqrt .ensures, at-snare .semitones-to-ratio2 .ensures .0)
+    (rw (at-drum .semitones-to-ratio .ensures .0, at-drum .before .clamp .ensures))
 
 pub new-spec : {M : Type 1} → statement M
 new-spec =

@@ -21,8 +21,8 @@
 //      2  the block has more than 16,384 samples
 //      3  f0, in cycles a sample, is not a number from 2^-20 to 0.5
 //      4  accent is not a number from 0.0 to 1.0
-//      5  another knob is not a number from 0.0 to 1.0
-//      6  the pitch in semitones, plus 128.0 and rounded, is 256.0 or more
+//      5  another knob is not a number from 0.0 to 1.0, or the decay of the analog bass from 0.0 to 2.0
+//      6  is retired: no call answers it
 //      7  sheet: the first line is not `rate,length` with a rate from 16000 to 96000 and a length of at most 16384
 //      8  sheet: a cue has not seven well-formed fields and a line end
 //      9  sheet: a cue does not start below the length and after the cue before it
@@ -145,7 +145,7 @@ uint32_t bechullpi_random_get_word(uint32_t state);
 // A value from 0.0 to 1.0, both included, and the word drawn, which is the next state.
 bechullpi_draw bechullpi_random_get_float(uint32_t state);
 
-// The ratio of a pitch in semitones, held from p = semitones + 128.0 = 256.0 on.
+// The ratio of a pitch in semitones. It is held past the end of the tables, at 128.0.
 float bechullpi_units_semitones_to_ratio(float semitones);
 
 // A value that reaches another in `size` equal steps.

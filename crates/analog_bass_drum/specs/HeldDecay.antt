@@ -18,12 +18,16 @@ abbrev pub firstPast : Float
 firstPast = ofBits binary32 0x3fcccccc
 
 -- every call with one of two decays answers, leaves and fills what it does with the other
-pub record SameCalls (decay other : Float) (accent f0 tone attackFmAmount selfFmAmount : Float) : Type 0 where
-  pub number : (size : ℕ) → renderRefusal size accent f0 tone decay attackFmAmount selfFmAmount ≡ renderRefusal size accent f0 tone other attackFmAmount selfFmAmount
+pub record SameCalls (decay other accent f0 tone attackFmAmount selfFmAmount : Float) : Type 0 where
+  pub number : (size : ℕ)
+      → renderRefusal size accent f0 tone decay attackFmAmount selfFmAmount
+      ≡ renderRefusal size accent f0 tone other attackFmAmount selfFmAmount
   pub voice : (v : AnalogBassDrum) (trigger : Bool) (size : ℕ)
-      → render v trigger accent f0 tone decay attackFmAmount selfFmAmount size ≡ render v trigger accent f0 tone other attackFmAmount selfFmAmount size
+      → render v trigger accent f0 tone decay attackFmAmount selfFmAmount size
+      ≡ render v trigger accent f0 tone other attackFmAmount selfFmAmount size
   pub out : (v : AnalogBassDrum) (trigger : Bool) (out : List Float)
-      → renderOut v trigger accent f0 tone decay attackFmAmount selfFmAmount out ≡ renderOut v trigger accent f0 tone other attackFmAmount selfFmAmount out
+      → renderOut v trigger accent f0 tone decay attackFmAmount selfFmAmount out
+      ≡ renderOut v trigger accent f0 tone other attackFmAmount selfFmAmount out
 
 abbrev pub HeldDecay : Type 0
 HeldDecay = (decay accent f0 tone attackFmAmount selfFmAmount : Float) → T (within firstPast (decimal 2 0) decay)

@@ -81,7 +81,7 @@ pub extern "C" fn bechullpi_random_get_float(state: u32) -> Draw
     random::get_float(state)
 }
 
-// The ratio of a pitch in semitones, held from p = semitones + 128.0 = 256.0 on.
+// The ratio of a pitch in semitones. It is held past the end of the tables, at 128.0.
 #[no_mangle]
 pub extern "C" fn bechullpi_units_semitones_to_ratio(semitones: f32) -> f32
     ensures { λ r. ⌜ r ≡ Units.ratio semitones ⌝ }

@@ -3,10 +3,9 @@ use borrow.Author.Tests.{le-ltb, ne-eqb}
 use mathlib.Core.Path.{_≡_, refl, sym, ap, _∙_}
 use mathlib.Core.Bool.{Bool, true, false, _&&_}
 use Prim.Native.Nat.{ℕ, _+_, _*_, _%_, _<_}
-use native.Mathlib.Nat.{mul-pos}
 use native.Mathlib.Omega.{arith}
-use lib.Dec.{T, eqb, lit<, ltb→lt}
-use lib.IntN.{ℤ, pos, _+ℤ_, _-ℤ_, +ℤ-assoc, -ℤ-+ℤ-cancel, pos-+ℤ-pos}
+use lib.Dec.{T, eqb, ltb→lt}
+use lib.IntN.{pos, _+ℤ_, _-ℤ_, +ℤ-assoc, -ℤ-+ℤ-cancel, pos-+ℤ-pos}
 use lib.Ieee.{Float, nan, inf, fin, binary32, up, down, round, toUnsigned, le, lt}
 use lib.Ieee.Fits.{add-fits, down-pos}
 use Rattle.ieee754.specs.Single.{_⊗_, decimal}

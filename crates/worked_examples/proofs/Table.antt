@@ -1,8 +1,9 @@
 -- Examples at the edges, each computed from the definitions that the contracts cite.
 use mathlib.Core.Path.{_≡_, refl}
+use mathlib.Core.Bool.{false}
 use Prim.Native.Nat.{ℕ}
 use lib.ListN.{getD}
-use lib.Ieee.{nan, binary32, ofBits, toBits, ofInt, round, add, sub, mul, div, neg, le, lt, eq, isNan, toUnsigned}
+use lib.Ieee.{nan, inf, binary32, ofBits, toBits, ofInt, round, add, sub, mul, div, neg, le, lt, eq, isNan, toUnsigned}
 use Rattle.ieee754.specs.Single.{_⊖_, decimal}
 use Rattle.ieee754.specs.Operations.{precedes, choose, theNumber, minimumNumber}
 use Rattle.ieee754.specs.Root.{sqrt}
@@ -65,6 +66,10 @@ semitones-last = refl
 semitones-held : ratio (decimal 128 0 ⊖ decimal 762939453125 17) ≡ ofBits binary32 0x44cb243a
 unfolding ratio «LUT_PITCH_RATIO_HIGH» «LUT_PITCH_RATIO_LOW» round ofBits add sub mul le ofInt toUnsigned
 semitones-held = refl
+
+semitones-infinite : ratio (inf false) ≡ ofBits binary32 0x44cb243a
+unfolding ratio «LUT_PITCH_RATIO_HIGH» «LUT_PITCH_RATIO_LOW» round ofBits add mul le
+semitones-infinite = refl
 
 root-2 : sqrt binary32 (decimal 2 0) ≡ ofBits binary32 0x3fb504f3
 unfolding sqrt round ofBits

@@ -5,7 +5,7 @@ use Prim.Native.Nat.{ℕ, _+_, _*_}
 use native.Mathlib.Omega.{arith}
 use lib.Dec.{T, lit<}
 use lib.IntN.{ℤ, pos, negsuc}
-use lib.Ieee.{Float, nan, inf, fin, binary32, up, down, round, ofBits, ofInt, toUnsigned, add, sub, mul, sum, le}
+use lib.Ieee.{Float, nan, inf, fin, binary32, up, down, round, ofBits, ofInt, toUnsigned, add, sub, mul, sum, le, lt}
 use lib.Ieee.Bits.{is-true}
 use lib.Ieee.Fits.{and-l, and-r, down-pos}
 use lib.Ieee.Back.{round-whole}
@@ -14,8 +14,9 @@ use lib.Ieee.Positive.{positive, num, den, den-pos, own-value, le→cross, betwe
 use Rattle.ieee754.specs.Single.{_⊗_, decimal}
 use Rattle.refusal.specs.Refusal.{within, isBassDecay}
 use Rattle.units.specs.Units.{pitchOf, ratioAt, ratio}
+use Rattle.units.specs.Accuracy.{InTables}
 use Rattle.analog_bass_drum.specs.AnalogBassDrum.{settings, renderRefusal}
-use Rattle.analog_bass_drum.specs.HeldDecay.{firstPast, lastInTables, HeldDecay}
+use Rattle.analog_bass_drum.specs.HeldDecay.{firstPast, lastInTables, SameCalls, decayPitch, IsPast, HeldDecay}
 
 -- ---- the pitch: 80 times the first decay past the tables is 128 - 2 ^ -17, whose sum with 128 is rounded to 256; so is that of what is larger
 first-semitones : firstPast ⊗ decimal 80 0 ≡ fin false 16777215 (negsuc 16)
@@ -56,7 +57,19 @@ last-held : ratioAt 255 255 ≡ ratio (lastInTables ⊗ decimal 80 0)
 unfolding ratio round ofBits ofInt toUnsigned add sub mul le
 last-held = refl
 
-module _ (decay : Float) (low : T (le firstPast decay)) (high : T (le decay (decimal 2 0))) where
+last-in : InTables (decayPitch lastInTables)
+unfolding round ofBits add mul le lt
+last-in = (tt, tt)
+
+module _ (decay : Float) (h : IsPast decay) where
+  low : T (le firstPast decay)
+  unfolding within
+  low = and-l (le firstPast decay) (le decay (decimal 2 0)) h
+
+  high : T (le decay (decimal 2 0))
+  unfolding within
+  high = and-r (le firstPast decay) (le decay (decimal 2 0)) h
+
   some : T (positive decay)
   unfolding round ofBits
   some = between firstPast decay (decimal 2 0) tt tt low high
@@ -69,16 +82,16 @@ module _ (decay : Float) (low : T (le firstPast decay)) (high : T (le decay (dec
   unfolding round ofBits le
   at-most = mul-mono binary32 decay (decimal 2 0) (decimal 80 0) (decimal 80 0) some tt tt tt high tt
 
-  beyond : le (decimal 256 0) (pitchOf (decay ⊗ decimal 80 0)) ≡ true
+  beyond : T (le (decimal 256 0) (decayPitch decay))
   unfolding round ofBits mul
   beyond =
       let semitones = decay ⊗ decimal 80 0 in
       let positive-semitones = between (firstPast ⊗ decimal 80 0) semitones (decimal 2 0 ⊗ decimal 80 0) tt tt at-least at-most in
-      is-true _ (past semitones positive-semitones (rw first-semitones at at-least))
+      past semitones positive-semitones (rw first-semitones at at-least)
 
   held : ratio (decay ⊗ decimal 80 0) ≡ ratio (lastInTables ⊗ decimal 80 0)
   unfolding ratio
-  held = rw beyond last-held
+  held = rw (is-true (le (decimal 256 0) (decayPitch decay)) beyond) last-held
 
   settings-held : (f0 tone attackFmAmount selfFmAmount : Float)
       → settings f0 tone decay attackFmAmount selfFmAmount ≡ settings f0 tone lastInTables attackFmAmount selfFmAmount
@@ -92,11 +105,11 @@ module _ (decay : Float) (low : T (le firstPast decay)) (high : T (le decay (dec
       let from-0 = le-of-values (decimal 0 0) decay 0 1 (num decay) (den decay) (lit< tt) (den-pos decay) zero (own-value decay some) (omega arith) in
       rw (is-true (le (decimal 0 0) decay) from-0, is-true (le decay (decimal 2 0)) high) last-passes
 
+  same-calls : (accent f0 tone attackFmAmount selfFmAmount : Float) → SameCalls decay lastInTables accent f0 tone attackFmAmount selfFmAmount
+  unfolding renderRefusal
+  same-calls accent f0 tone attackFmAmount selfFmAmount =
+      let set = settings-held f0 tone attackFmAmount selfFmAmount in
+      record { number = λ size. rw passes; voice = λ v trigger size. rw (passes, set); out = λ v trigger out. rw (passes, set) }
+
 pub held-decay : HeldDecay
-unfolding within renderRefusal
-held-decay decay accent f0 tone attackFmAmount selfFmAmount h =
-    let low = and-l (le firstPast decay) (le decay (decimal 2 0)) h in
-    let high = and-r (le firstPast decay) (le decay (decimal 2 0)) h in
-    let asked = passes decay low high in
-    let set = settings-held decay low high f0 tone attackFmAmount selfFmAmount in
-    record { number = λ size. rw asked; voice = λ v trigger size. rw (asked, set); out = λ v trigger out. rw (asked, set) }
+held-decay = record { last = last-in; past = beyond; same = same-calls }

@@ -5,9 +5,11 @@ use mathlib.Core.Path.{_≡_}
 use mathlib.Core.Bool.{Bool}
 use mathlib.Core.List.{List}
 use lib.Dec.{T}
-use lib.Ieee.{Float, binary32, ofBits}
-use Rattle.ieee754.specs.Single.{decimal}
+use lib.Ieee.{Float, binary32, ofBits, le}
+use Rattle.ieee754.specs.Single.{_⊗_, decimal}
 use Rattle.refusal.specs.Refusal.{within}
+use Rattle.units.specs.Units.{pitchOf}
+use Rattle.units.specs.Accuracy.{InTables}
 use Rattle.analog_bass_drum.specs.AnalogBassDrum.{renderRefusal, render, renderOut}
 use Rattle.analog_bass_drum.specs.declared.AnalogBassDrum.{AnalogBassDrum}
 
@@ -29,6 +31,16 @@ pub record SameCalls (decay other accent f0 tone attackFmAmount selfFmAmount : F
       → renderOut v trigger accent f0 tone decay attackFmAmount selfFmAmount out
       ≡ renderOut v trigger accent f0 tone other attackFmAmount selfFmAmount out
 
-abbrev pub HeldDecay : Type 0
-HeldDecay = (decay accent f0 tone attackFmAmount selfFmAmount : Float) → T (within firstPast (decimal 2 0) decay)
-    → SameCalls decay lastInTables accent f0 tone attackFmAmount selfFmAmount
+-- the pitch at which `semitones_to_ratio(decay * 80.0)` reads the tables
+abbrev pub decayPitch : Float → Float
+decayPitch decay = pitchOf (decay ⊗ decimal 80 0)
+
+abbrev pub IsPast : Float → Type 0
+IsPast decay = T (within firstPast (decimal 2 0) decay)
+
+-- `lastInTables` has a place in the tables; `firstPast` and every longer decay have none, and a call with one of them is the call with `lastInTables`.
+pub record HeldDecay : Type 0 where
+  pub last : InTables (decayPitch lastInTables)
+  pub past : (decay : Float) → IsPast decay → T (le (decimal 256 0) (decayPitch decay))
+  pub same : (decay : Float) → IsPast decay → (accent f0 tone attackFmAmount selfFmAmount : Float)
+      → SameCalls decay lastInTables accent f0 tone attackFmAmount selfFmAmount

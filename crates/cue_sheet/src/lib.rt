@@ -124,7 +124,9 @@ fn is_decay(voice: Voice, bits: u32) -> bool
         let decay = f32::from_bits(bits);
         match voice {
             Voice::Bass => refusal::is_bass_decay(decay),
-            _ => refusal::is_unit(decay),
+            Voice::Snare => refusal::is_unit(decay),
+            Voice::SyntheticSnare => refusal::is_unit(decay),
+            Voice::Hihat => refusal::is_unit(decay),
         }
     } else {
         false

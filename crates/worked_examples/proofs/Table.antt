@@ -10,7 +10,7 @@ use Rattle.ieee754.specs.Root.{sqrt}
 use Rattle.block.specs.Block.{after}
 use Rattle.random.specs.Random.{getWord, getFloat}
 use Rattle.units.specs.Tables.{«LUT_PITCH_RATIO_HIGH», «LUT_PITCH_RATIO_LOW»}
-use Rattle.units.specs.Units.{ratio}
+use Rattle.units.specs.Units.{pitchOf, ratio}
 use Rattle.utils.specs.Utils.{softLimit, softClip}
 use Rattle.hihat.specs.SquareNoise.{ratios, increment, increments, advanced, countHigh}
 use Rattle.hihat.specs.SquareNoise as SquareNoise
@@ -62,6 +62,10 @@ semitones-nan = refl
 semitones-last : ratio (decimal 128 0 ⊖ decimal 152587890625 16) ≡ ofBits binary32 0x44cb243a
 unfolding ratio «LUT_PITCH_RATIO_HIGH» «LUT_PITCH_RATIO_LOW» round ofBits add sub mul le ofInt toUnsigned
 semitones-last = refl
+
+pitch-held : pitchOf (decimal 128 0 ⊖ decimal 762939453125 17) ≡ decimal 256 0
+unfolding round add sub
+pitch-held = refl
 
 semitones-held : ratio (decimal 128 0 ⊖ decimal 762939453125 17) ≡ ofBits binary32 0x44cb243a
 unfolding ratio «LUT_PITCH_RATIO_HIGH» «LUT_PITCH_RATIO_LOW» round ofBits add sub mul le ofInt toUnsigned

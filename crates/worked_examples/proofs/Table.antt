@@ -58,13 +58,13 @@ semitones-nan : ratio nan ≡ ofBits binary32 0x3a214518
 unfolding ratio «LUT_PITCH_RATIO_HIGH» «LUT_PITCH_RATIO_LOW» round ofBits add sub mul le ofInt toUnsigned
 semitones-nan = refl
 
--- 128 - 2^-16, whose pitch is the last below 256, and 128 - 2^-17, whose sum with 128 rounds to 256: the ratio is held
+-- 128 - 2^-16, whose pitch is the last below 256, and 128 - 2^-17, whose sum with 128 rounds to 256 (43800000): the ratio is held
 semitones-last : ratio (decimal 128 0 ⊖ decimal 152587890625 16) ≡ ofBits binary32 0x44cb243a
 unfolding ratio «LUT_PITCH_RATIO_HIGH» «LUT_PITCH_RATIO_LOW» round ofBits add sub mul le ofInt toUnsigned
 semitones-last = refl
 
-pitch-held : pitchOf (decimal 128 0 ⊖ decimal 762939453125 17) ≡ decimal 256 0
-unfolding round add sub
+pitch-held : pitchOf (decimal 128 0 ⊖ decimal 762939453125 17) ≡ ofBits binary32 0x43800000
+unfolding round ofBits add sub
 pitch-held = refl
 
 semitones-held : ratio (decimal 128 0 ⊖ decimal 762939453125 17) ≡ ofBits binary32 0x44cb243a

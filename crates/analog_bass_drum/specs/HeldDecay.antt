@@ -1,6 +1,6 @@
 -- Past the tables' end a longer decay changes nothing: from 3fcccccc (1.5999999) on a call is that with 3fcccccb, the last decay whose pitch has a place
 -- in them and the last for which the Rust does not panic. Definitions only.
-use Prim.Native.Nat.{ℕ}
+use Prim.Native.Nat.{ℕ, _+_}
 use mathlib.Core.Path.{_≡_}
 use mathlib.Core.Bool.{Bool}
 use mathlib.Core.List.{List}
@@ -13,11 +13,15 @@ use Rattle.units.specs.Accuracy.{InTables}
 use Rattle.analog_bass_drum.specs.AnalogBassDrum.{renderRefusal, render, renderOut}
 use Rattle.analog_bass_drum.specs.declared.AnalogBassDrum.{AnalogBassDrum}
 
+abbrev pub lastPattern : ℕ
+lastPattern = 0x3fcccccb
+
+-- neighbours: no decay lies between the two
 abbrev pub lastInTables : Float
-lastInTables = ofBits binary32 0x3fcccccb
+lastInTables = ofBits binary32 lastPattern
 
 abbrev pub firstPast : Float
-firstPast = ofBits binary32 0x3fcccccc
+firstPast = ofBits binary32 (lastPattern + 1)
 
 -- every call with one of two decays answers, leaves and fills what it does with the other
 pub record SameCalls (decay other accent f0 tone attackFmAmount selfFmAmount : Float) : Type 0 where

@@ -1,6 +1,7 @@
 -- Refusals, their numbers, and the questions that several routines ask. Definitions only.
 use Prim.Native.Nat.{ℕ, zero, suc, _^_}
 use mathlib.Core.Bool.{Bool, true, false, _&&_}
+use mathlib.Core.List.{List}
 use lib.Dec.{leb}
 use lib.Ieee.{Float, binary32, le, round}
 use Rattle.ieee754.specs.Single.{decimal}
@@ -36,6 +37,28 @@ ask false n next = n
 abbrev pub unlessRefused : {A : Type 0} → ℕ → A → A → A
 unlessRefused zero new old = new
 unlessRefused (suc n) new old = old
+
+-- ---- a call of a voice
+
+-- a voice, and the noise state beside it
+pub record Noisy (Voice : Type 0) : Type 0 where
+  pub voice : Voice
+  pub noise : ℕ
+
+abbrev pub noisy : {Voice : Type 0} → Voice → ℕ → Noisy Voice
+noisy voice noise = record { voice = voice; noise = noise }
+
+-- what a call gives: its number, the voice after it, with the noise state where it draws noise, and the lent buffer after it; `out` is empty where none is lent
+pub record Call (State : Type 0) : Type 0 where
+  pub number : ℕ
+  pub state : State
+  pub out : List Float
+
+-- a call of the number n that makes a new state and a new buffer of the old ones: a refusal leaves both as they were
+abbrev pub call : {State : Type 0} → ℕ → State → List Float → State → List Float → Call State
+call n newState newOut state out = record { number = n; state = unlessRefused n newState state; out = unlessRefused n newOut out }
+
+-- ---- the questions
 
 -- a number from low to high: no comparison with a NaN holds
 unfoldable pub within : Float → Float → Float → Bool

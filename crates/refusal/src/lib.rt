@@ -102,6 +102,43 @@ pub fn is_bass_decay(x: f32) -> bool
     within(0.0, 2.0, x)
 }
 
+// The questions, one by one: each call of a voice asks its own, in the order of their numbers. `next` is the answer of the questions after it.
+pub fn ask_sample_rate(sample_rate_hz: f32, next: Answer) -> Answer
+    ensures { λ r. ⌜ spec.answerNumber r ≡ spec.ask (spec.isSampleRate «sample_rate_hz») 1 (spec.answerNumber next) ⌝ }
+{
+    ask(is_sample_rate(sample_rate_hz), Refusal::SampleRate, next)
+}
+
+pub fn ask_block_length(samples: usize, next: Answer) -> Answer
+    ensures { λ r. ⌜ spec.answerNumber r ≡ spec.ask (spec.isBlockLength samples) 2 (spec.answerNumber next) ⌝ }
+{
+    ask(samples <= 16384, Refusal::BlockLength, next)
+}
+
+pub fn ask_frequency(f0: f32, next: Answer) -> Answer
+    ensures { λ r. ⌜ spec.answerNumber r ≡ spec.ask (spec.isFrequency f0) 3 (spec.answerNumber next) ⌝ }
+{
+    ask(is_frequency(f0), Refusal::Frequency, next)
+}
+
+pub fn ask_accent(accent: f32, next: Answer) -> Answer
+    ensures { λ r. ⌜ spec.answerNumber r ≡ spec.ask (spec.isUnit accent) 4 (spec.answerNumber next) ⌝ }
+{
+    ask(is_unit(accent), Refusal::Accent, next)
+}
+
+pub fn ask_knob(knob: f32, next: Answer) -> Answer
+    ensures { λ r. ⌜ spec.answerNumber r ≡ spec.ask (spec.isUnit knob) 5 (spec.answerNumber next) ⌝ }
+{
+    ask(is_unit(knob), Refusal::Knob, next)
+}
+
+pub fn ask_bass_decay(decay: f32, next: Answer) -> Answer
+    ensures { λ r. ⌜ spec.answerNumber r ≡ spec.ask (spec.isBassDecay decay) 5 (spec.answerNumber next) ⌝ }
+{
+    ask(is_bass_decay(decay), Refusal::Knob, next)
+}
+
 // The questions 2 to 5, of the block's length, of f0, of accent and of three more knobs, and the answer of the questions after them.
 pub fn ask_block(
     samples: usize,

@@ -1,0 +1,7 @@
+-- The contracts of the two calls.
+use borrow.Author.Needs.{needs}
+use Rattle.refusal.proofs.ask_accent.Statement.{statement}
+use Rattle.refusal.proofs.ask_accent.Tie as tie
+
+pub ask-accent-spec : {M : Type 1} → statement M
+ask-accent-spec = tie.close (tie.spec (λ c κs. search needs) (λ c κs. search needs) (λ c. cc))

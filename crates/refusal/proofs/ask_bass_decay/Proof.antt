@@ -1,0 +1,7 @@
+-- The contracts of the two calls.
+use borrow.Author.Needs.{needs}
+use Rattle.refusal.proofs.ask_bass_decay.Statement.{statement}
+use Rattle.refusal.proofs.ask_bass_decay.Tie as tie
+
+pub ask-bass-decay-spec : {M : Type 1} → statement M
+ask-bass-decay-spec = tie.close (tie.spec (λ c κs. search needs) (λ c κs. search needs) (λ c. cc))

@@ -4,6 +4,7 @@ use mathlib.Core.Bool.{true, false}
 use Prim.Native.Nat.{ℕ, _+_, _*_}
 use native.Mathlib.Omega.{arith}
 use lib.Dec.{T, lit<}
+use lib.ListN.{length}
 use lib.IntN.{ℤ, pos, negsuc}
 use lib.Ieee.{Float, nan, inf, fin, binary32, up, down, round, ofBits, ofInt, toUnsigned, add, sub, mul, sum, le, lt}
 use lib.Ieee.Bits.{is-true}
@@ -16,7 +17,8 @@ use Rattle.refusal.specs.Refusal.{within, isBassDecay}
 use Rattle.units.specs.Units.{pitchOf, ratioAt, ratio}
 use Rattle.units.specs.Accuracy.{InTables}
 use Rattle.analog_bass_drum.specs.AnalogBassDrum.{settings, renderRefusal}
-use Rattle.analog_bass_drum.specs.HeldDecay.{firstPast, lastInTables, SameCalls, decayPitch, IsPast, HeldDecay}
+use Rattle.analog_bass_drum.specs.declared.Knobs.{Knobs}
+use Rattle.analog_bass_drum.specs.HeldDecay.{firstPast, lastInTables, withDecay, decayPitch, IsPast, HeldDecay}
 
 -- ---- the pitch: 80 times the first decay past the tables is 128 - 2 ^ -17, whose sum with 128 is rounded to 256; so is that of what is larger
 first-semitones : firstPast ⊗ decimal 80 0 ≡ fin false 16777215 (negsuc 16)
@@ -93,11 +95,6 @@ module _ (decay : Float) (h : IsPast decay) where
   unfolding ratio
   held = rw (is-true (le (decimal 256 0) (decayPitch decay)) beyond) last-held
 
-  settings-held : (f0 tone attackFmAmount selfFmAmount : Float)
-      → settings f0 tone decay attackFmAmount selfFmAmount ≡ settings f0 tone lastInTables attackFmAmount selfFmAmount
-  unfolding settings
-  settings-held f0 tone attackFmAmount selfFmAmount = rw held
-
   passes : isBassDecay decay ≡ isBassDecay lastInTables
   unfolding isBassDecay within
   passes =
@@ -105,11 +102,18 @@ module _ (decay : Float) (h : IsPast decay) where
       let from-0 = le-of-values (decimal 0 0) decay 0 1 (num decay) (den decay) (lit< tt) (den-pos decay) zero (own-value decay some) (omega arith) in
       rw (is-true (le (decimal 0 0) decay) from-0, is-true (le decay (decimal 2 0)) high) last-passes
 
-  same-calls : (accent f0 tone attackFmAmount selfFmAmount : Float) → SameCalls decay lastInTables accent f0 tone attackFmAmount selfFmAmount
+module _ (k : Knobs) (h : IsPast (k .decay)) where
+  settings-held : settings k ≡ settings (withDecay lastInTables k)
+  unfolding settings
+  settings-held = rw (held (k .decay) h)
+
+  same-number : (accent : Float) (n : ℕ) → renderRefusal accent k n ≡ renderRefusal accent (withDecay lastInTables k) n
   unfolding renderRefusal
-  same-calls accent f0 tone attackFmAmount selfFmAmount =
-      let set = settings-held f0 tone attackFmAmount selfFmAmount in
-      record { number = λ size. rw passes; voice = λ v trigger size. rw (passes, set); out = λ v trigger out. rw (passes, set) }
+  same-number accent n = rw (passes (k .decay) h)
 
 pub held-decay : HeldDecay
-held-decay = record { last = last-in; past = beyond; same = same-calls }
+held-decay = record {
+  last = last-in;
+  past = beyond;
+  same = λ v trigger accent k out h. rw (settings-held k h, same-number k h accent (length out));
+}

@@ -10,8 +10,9 @@ use Rattle.ieee754.specs.Single.{_⊗_, decimal}
 use Rattle.refusal.specs.Refusal.{within}
 use Rattle.units.specs.Units.{pitchOf}
 use Rattle.units.specs.Accuracy.{InTables}
-use Rattle.analog_bass_drum.specs.AnalogBassDrum.{renderRefusal, render, renderOut}
+use Rattle.analog_bass_drum.specs.AnalogBassDrum.{render}
 use Rattle.analog_bass_drum.specs.declared.AnalogBassDrum.{AnalogBassDrum}
+use Rattle.analog_bass_drum.specs.declared.Knobs.{Knobs}
 
 abbrev pub lastPattern : ℕ
 lastPattern = 0x3fcccccb
@@ -23,17 +24,15 @@ lastInTables = ofBits binary32 lastPattern
 abbrev pub firstPast : Float
 firstPast = ofBits binary32 (lastPattern + 1)
 
--- every call with one of two decays answers, leaves and fills what it does with the other
-pub record SameCalls (decay other accent f0 tone attackFmAmount selfFmAmount : Float) : Type 0 where
-  pub number : (size : ℕ)
-      → renderRefusal size accent f0 tone decay attackFmAmount selfFmAmount
-      ≡ renderRefusal size accent f0 tone other attackFmAmount selfFmAmount
-  pub voice : (v : AnalogBassDrum) (trigger : Bool) (size : ℕ)
-      → render v trigger accent f0 tone decay attackFmAmount selfFmAmount size
-      ≡ render v trigger accent f0 tone other attackFmAmount selfFmAmount size
-  pub out : (v : AnalogBassDrum) (trigger : Bool) (out : List Float)
-      → renderOut v trigger accent f0 tone decay attackFmAmount selfFmAmount out
-      ≡ renderOut v trigger accent f0 tone other attackFmAmount selfFmAmount out
+-- the knobs with another decay
+abbrev pub withDecay : Float → Knobs → Knobs
+withDecay decay k = record {
+  f0 = k .f0;
+  tone = k .tone;
+  decay = decay;
+  «attack_fm_amount» = k .«attack_fm_amount»;
+  «self_fm_amount» = k .«self_fm_amount»;
+}
 
 -- the pitch at which `semitones_to_ratio(decay * 80.0)` reads the tables
 abbrev pub decayPitch : Float → Float
@@ -46,5 +45,5 @@ IsPast decay = T (within firstPast (decimal 2 0) decay)
 pub record HeldDecay : Type 0 where
   pub last : InTables (decayPitch lastInTables)
   pub past : (decay : Float) → IsPast decay → T (le (decimal 256 0) (decayPitch decay))
-  pub same : (decay : Float) → IsPast decay → (accent f0 tone attackFmAmount selfFmAmount : Float)
-      → SameCalls decay lastInTables accent f0 tone attackFmAmount selfFmAmount
+  pub same : (v : AnalogBassDrum) (trigger : Bool) (accent : Float) (k : Knobs) (out : List Float) → IsPast (k .decay)
+      → render v trigger accent k out ≡ render v trigger accent (withDecay lastInTables k) out

@@ -1,11 +1,11 @@
 // drums/analog_bass_drum.rs: 808 bass drum model, without its sustain mode.
 ghost use mathlib.Core.Path.{_≡_};
-ghost use mathlib.Core.Bool.{true};
+ghost use mathlib.Core.Bool.{true, cond};
 ghost use lib.ListN.{length};
 ghost use Rattle.refusal.specs.Refusal.{answerNumber};
 ghost use Rattle.block.specs.Block.{samples, after};
 ghost use Rattle.analog_bass_drum.specs.AnalogBassDrum as spec;
-ghost use Rattle.analog_bass_drum.specs.Rest.{AtRest};
+ghost use Rattle.analog_bass_drum.specs.Excitation.{fmPulse, excitation, AtRest};
 use filter::FilterMode;
 use filter::FrequencyApproximation;
 use filter::Svf;
@@ -30,6 +30,15 @@ pub struct AnalogBassDrum {
     pub pulse_decay_time: f32,
     pub pulse_filter_time: f32,
     pub retrig_pulse_duration: f32,
+}
+
+#[repr(C)]
+pub struct Knobs {
+    pub f0: f32,
+    pub tone: f32,
+    pub decay: f32,
+    pub attack_fm_amount: f32,
+    pub self_fm_amount: f32,
 }
 
 // What a call answers, and the voice after it.
@@ -68,17 +77,6 @@ struct Excitation {
     attack: f32,
 }
 
-fn diode(x: f32) -> f32
-    ensures { λ r. ⌜ r ≡ spec.diode x ⌝ }
-{
-    if x >= 0.0 {
-        return x;
-    }
-    // y is negative or no number, so this is 1.0 plus its magnitude
-    let y = x * 2.0;
-    0.7 * y / (1.0 - y)
-}
-
 impl AnalogBassDrum {
     // Every field zero, for `init` to overwrite.
     pub const ZERO: AnalogBassDrum = AnalogBassDrum {
@@ -100,8 +98,8 @@ impl AnalogBassDrum {
     };
 
     pub fn init(self, sample_rate_hz: f32) -> Answered
-        ensures answer { λ r. ⌜ answerNumber (r .answer) ≡ spec.initRefusal «sample_rate_hz» ⌝ }
-        ensures voice { λ r. ⌜ r .voice ≡ spec.init self «sample_rate_hz» ⌝ }
+        ensures number { λ r. ⌜ answerNumber (r .answer) ≡ spec.init self «sample_rate_hz» .number ⌝ }
+        ensures voice { λ r. ⌜ r .voice ≡ spec.init self «sample_rate_hz» .state ⌝ }
     {
         if refusal::is_sample_rate(sample_rate_hz) {
             let voice = self.initialized(sample_rate_hz);
@@ -131,45 +129,26 @@ impl AnalogBassDrum {
         }
     }
 
-    pub fn render(
-        self,
-        trigger: bool,
-        accent: f32,
-        f0: f32,
-        tone: f32,
-        decay: f32,
-        attack_fm_amount: f32,
-        self_fm_amount: f32,
-        out: &mut [f32],
-    ) -> Answered
-        ensures answer { λ r. ⌜ answerNumber (r .answer) ≡ spec.renderRefusal (length (now (out .entry))) accent f0 tone decay «attack_fm_amount» «self_fm_amount» ⌝ }
-        ensures voice { λ r. ⌜ r .voice ≡ spec.render self trigger accent f0 tone decay «attack_fm_amount» «self_fm_amount» (length (now (out .entry))) ⌝ }
-        ensures block { λ _. ⌜ now (out .exit) ≡ spec.renderOut self trigger accent f0 tone decay «attack_fm_amount» «self_fm_amount» (now (out .entry)) ⌝ }
+    pub fn render(self, trigger: bool, accent: f32, knobs: Knobs, out: &mut [f32]) -> Answered
+        ensures number { λ r. ⌜ answerNumber (r .answer) ≡ spec.render self trigger accent knobs (now (out .entry)) .number ⌝ }
+        ensures voice { λ r. ⌜ r .voice ≡ spec.render self trigger accent knobs (now (out .entry)) .state ⌝ }
+        ensures out { λ _. ⌜ now (out .exit) ≡ spec.render self trigger accent knobs (now (out .entry)) .out ⌝ }
     {
-        let answer = asked(
-            out.len(),
-            accent,
-            f0,
-            tone,
-            decay,
-            attack_fm_amount,
-            self_fm_amount,
-        );
+        let answer = knobs.asked(accent, out.len());
         match answer {
             Answer::Refused(_) => Answered {
                 answer,
                 voice: self,
             },
             Answer::Accepted => {
-                let settings = Settings::new(f0, tone, decay, attack_fm_amount, self_fm_amount);
-                let voice = self.triggered(trigger, accent).run(settings, out);
+                let voice = self.triggered(trigger, accent).run(knobs.settings(), out);
                 Answered { answer, voice }
             }
         }
     }
 
     fn triggered(self, trigger: bool, accent: f32) -> Self
-        ensures { λ r. ⌜ r ≡ spec.triggered self trigger accent ⌝ }
+        ensures { λ r. ⌜ r ≡ cond trigger (spec.triggered self accent) self ⌝ }
     {
         if trigger {
             AnalogBassDrum {
@@ -186,8 +165,8 @@ impl AnalogBassDrum {
 
     // The loop over the block.
     fn run(self, settings: Settings, out: &mut [f32]) -> Self
-        ensures voice { λ r. ⌜ r ≡ after (spec.turn settings) (length (now (out .entry))) self ⌝ }
-        ensures block { λ _. ⌜ now (out .exit) ≡ samples (spec.turn settings) (length (now (out .entry))) self ⌝ }
+        ensures voice { λ r. ⌜ r ≡ after (spec.step settings) (length (now (out .entry))) self ⌝ }
+        ensures out { λ _. ⌜ now (out .exit) ≡ samples (spec.step settings) (length (now (out .entry))) self ⌝ }
     {
         let mut voice = self;
         let mut e = voice.excitation(settings);
@@ -209,7 +188,7 @@ impl AnalogBassDrum {
 
     // The parts of a turn of the loop that come to rest.
     fn excitation(self, settings: Settings) -> Excitation
-        ensures { λ r. ⌜ r ≡ spec.excitation settings self ⌝ }
+        ensures { λ r. ⌜ r ≡ excitation settings self ⌝ }
     {
         // Q39 / Q40
         let trigger_pulse = TriggerPulse {
@@ -264,11 +243,18 @@ impl AnalogBassDrum {
 
     // What is left of the turn. The sample is tone_lp.
     fn step(self, settings: Settings, e: Excitation) -> Self
-        requires { ⌜ e ≡ spec.excitation settings self ⌝ }
-        ensures { λ r. ⌜ r ≡ spec.step settings self ⌝ }
+        requires { ⌜ e ≡ excitation settings self ⌝ }
+        ensures { λ r. ⌜ r ≡ spec.step settings self .next ⌝ }
     {
         let m = self.fm_pulse();
-        let f = frequency(settings, e.attack, self.lp_out);
+
+        // Q43 and R170 leakage
+        let punch = 0.7 + diode(10.0 * self.lp_out - 1.0);
+
+        // Q43 / R165
+        let self_fm = punch * 0.08 * settings.self_fm_amount;
+        let f = ieee754::clamp(settings.f0 * (e.attack + self_fm), 0.0, 0.4);
+
         let tuned = self.resonator
             .set_f_q(f, 1.0 + settings.q * f, FrequencyApproximation::Dirty);
         let d = tuned.process_dual(
@@ -276,7 +262,6 @@ impl AnalogBassDrum {
             FilterMode::BandPass,
             FilterMode::LowPass,
         );
-        let tone_lp = utils::one_pole(self.tone_lp, e.leak + d.out_1, settings.tone_f);
         let resonator = d.filter;
         AnalogBassDrum {
             pulse_remaining_samples: e.pulse_remaining_samples,
@@ -286,7 +271,7 @@ impl AnalogBassDrum {
             fm_pulse_lp: e.fm_pulse_lp,
             retrig_pulse: m.retrig_pulse,
             lp_out: d.out_2,
-            tone_lp,
+            tone_lp: utils::one_pole(self.tone_lp, e.leak + d.out_1, settings.tone_f),
             resonator,
             ..self
         }
@@ -294,7 +279,7 @@ impl AnalogBassDrum {
 
     // Q41 / Q42, C39 / C52, C39 / R161
     fn fm_pulse(self) -> FmPulse
-        ensures { λ r. ⌜ r ≡ spec.fmPulseOf self ⌝ }
+        ensures { λ r. ⌜ r ≡ fmPulse self ⌝ }
     {
         if self.fm_pulse_remaining_samples == 0 {
             return FmPulse {
@@ -319,60 +304,46 @@ impl AnalogBassDrum {
     }
 }
 
-// The questions of `render`, in the order of their numbers.
-fn asked(
-    samples: usize,
-    accent: f32,
-    f0: f32,
-    tone: f32,
-    decay: f32,
-    attack_fm_amount: f32,
-    self_fm_amount: f32,
-) -> Answer
-    ensures { λ r. ⌜ answerNumber r ≡ spec.renderRefusal samples accent f0 tone decay «attack_fm_amount» «self_fm_amount» ⌝ }
-{
-    let last = refusal::ask(
-        refusal::is_bass_decay(decay),
-        Refusal::Knob,
-        Answer::Accepted,
-    );
-    refusal::ask_block(
-        samples,
-        f0,
-        accent,
-        tone,
-        attack_fm_amount,
-        self_fm_amount,
-        last,
-    )
-}
+impl Knobs {
+    // The questions of `render`, the last one first.
+    fn asked(self, accent: f32, samples: usize) -> Answer
+        ensures { λ r. ⌜ answerNumber r ≡ spec.renderRefusal accent self samples ⌝ }
+    {
+        let self_fm_amount = refusal::ask_knob(self.self_fm_amount, Answer::Accepted);
+        let attack_fm_amount = refusal::ask_knob(self.attack_fm_amount, self_fm_amount);
+        let decay = refusal::ask_bass_decay(self.decay, attack_fm_amount);
+        let tone = refusal::ask_knob(self.tone, decay);
+        let accent = refusal::ask_accent(accent, tone);
+        let f0 = refusal::ask_frequency(self.f0, accent);
+        refusal::ask_block_length(samples, f0)
+    }
 
-impl Settings {
     // The lines before the loop.
-    fn new(f0: f32, tone: f32, decay: f32, attack_fm_amount: f32, self_fm_amount: f32) -> Self
-        ensures { λ r. ⌜ r ≡ spec.settings f0 tone decay «attack_fm_amount» «self_fm_amount» ⌝ }
+    fn settings(self) -> Settings
+        ensures { λ r. ⌜ r ≡ spec.settings self ⌝ }
     {
         Settings {
-            f0,
-            scale: 0.001 / f0,
-            q: 1500.0 * units::semitones_to_ratio(decay * 80.0),
+            f0: self.f0,
+            scale: 0.001 / self.f0,
+            q: 1500.0 * units::semitones_to_ratio(self.decay * 80.0),
             tone_f: ieee754::minimum_number(
-                4.0 * f0 * units::semitones_to_ratio(tone * 108.0),
+                4.0 * self.f0 * units::semitones_to_ratio(self.tone * 108.0),
                 1.0,
             ),
-            exciter_leak: 0.08 * (tone + 0.25),
-            attack_fm_amount,
-            self_fm_amount,
+            exciter_leak: 0.08 * (self.tone + 0.25),
+            attack_fm_amount: self.attack_fm_amount,
+            self_fm_amount: self.self_fm_amount,
         }
     }
 }
 
-// The resonator's frequency.
-fn frequency(settings: Settings, attack: f32, lp_out: f32) -> f32
-    ensures { λ r. ⌜ r ≡ spec.frequency settings attack «lp_out» ⌝ }
+fn diode(x: f32) -> f32
+    ensures { λ r. ⌜ r ≡ spec.diode x ⌝ }
 {
-    // Q43 and R170 leakage
-    let punch = 0.7 + diode(10.0 * lp_out - 1.0);
-    let self_fm = punch * 0.08 * settings.self_fm_amount;
-    ieee754::clamp(settings.f0 * (attack + self_fm), 0.0, 0.4)
+    if x >= 0.0 {
+        return x;
+    }
+    // y is negative or no number, so this is 1.0 plus its magnitude
+    let y = x * 2.0;
+    0.7 * y / (1.0 - y)
 }

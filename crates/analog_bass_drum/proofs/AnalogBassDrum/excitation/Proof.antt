@@ -1,19 +1,25 @@
--- Line by line the definition, the last call first.
+-- Line by line the turn, the last call first.
 use borrow.Author.Needs.{needs}
 use lib.Ieee.{round, ofBits}
-use Rattle.analog_bass_drum.specs.AnalogBassDrum.{excitation}
+use Rattle.analog_bass_drum.specs.AnalogBassDrum.{step}
+use Rattle.analog_bass_drum.specs.Excitation.{excitation, fmPulse}
 use Rattle.analog_bass_drum.proofs.AnalogBassDrum.excitation.Statement.{statement}
 use Rattle.analog_bass_drum.proofs.AnalogBassDrum.excitation.Tie as tie
 
 returns : tie.Need-returns
-unfolding excitation round ofBits
+unfolding excitation fmPulse step round ofBits
 returns c =
-    let at-fm-lp = c .before .before in
-    let at-fm = at-fm-lp .before .before in
-    let at-diode = at-fm .before in
-    let at-lp = at-diode .before .before .before in
-    let at-pulse = at-lp .before .before in
-    rw (at-fm-lp .one-pole2 .ensures, at-fm .fm-pulse .ensures, at-diode .diode .ensures, at-lp .one-pole .ensures, at-pulse .next .ensures)
+    let filtered = c .before .before in
+    let pulsed = filtered .before .before in
+    let rectified = pulsed .before in
+    let passed = rectified .before .before .before in
+    rw (
+      filtered .one-pole2 .ensures,
+      pulsed .fm-pulse .ensures,
+      rectified .diode .ensures,
+      passed .one-pole .ensures,
+      passed .before .before .next .ensures,
+    )
 
 pub excitation-spec : {M : Type 1} → statement M
 excitation-spec =

@@ -11,10 +11,11 @@ refused c = let known = c .before .before .asked .ensures in (known, rw (suc-of 
 accepted : tie.Need-returns-2
 accepted c =
     let ran = c .before .before in
-    let set = ran .before .before .before in
-    let known = set .before .before .before .asked .ensures in
-    let none = zero-of _ _ known (set .before .enum-told2 .given .1) in
-    (known, rw (ran .run .ensures .0, ran .run .ensures .1, ran .before .before .triggered .ensures, set .new .ensures, none) (refl, refl))
+    let set = ran .before .before in
+    let asked = set .before .before .before .before in
+    let known = asked .asked .ensures in
+    let none = zero-of _ _ known (set .before .before .enum-told2 .given .1) in
+    (known, rw (ran .run .ensures .0, ran .run .ensures .1, set .settings .ensures, set .before .triggered .ensures, none) (refl, refl))
 
 pub render-spec : {M : Type 1} → statement M
 render-spec =

@@ -7,14 +7,14 @@ use lib.ListN.{length, length-set}
 use Rattle.block.specs.Block.{source}
 use Rattle.block.proofs.Blocks.{Going, begin, end-source}
 use Rattle.block.proofs.Blocks.{turn as going}
-use Rattle.analog_bass_drum.specs.AnalogBassDrum.{turn}
-use Rattle.analog_bass_drum.proofs.Rest.{Kept, kept}
+use Rattle.analog_bass_drum.specs.AnalogBassDrum.{step}
+use Rattle.analog_bass_drum.proofs.Rest.{Kept, kept, sample-is}
 use Rattle.analog_bass_drum.proofs.AnalogBassDrum.run.Statement.{statement}
 use Rattle.analog_bass_drum.proofs.AnalogBassDrum.run.Tie as tie
 
 abbrev Inv-loop : tie.InvT-loop
 Inv-loop settings out₀ voice₀ e₀ at-rest₀ i₀ out voice e at-rest i =
-    Going (source (turn settings)) voice₀ out₀ out₀ voice out i × Kept settings voice e at-rest
+    Going (source (step settings)) voice₀ out₀ out₀ voice out i × Kept settings voice e at-rest
 
 abbrev μ-loop : tie.MeasureT-loop
 μ-loop settings out₀ voice₀ e₀ at-rest₀ i₀ out voice e at-rest i = length out - i
@@ -27,7 +27,7 @@ made : tie.Need-loop-again Inv-loop μ-loop
 made c =
     let s = c .before .before .before in
     let l = s .before .before .loop in (
-      rw (s .step .ensures) (going _ _ _ _ _ _ _ (l .inv .0) (omega (arith, l .inv .0 .long))),
+      rw (s .step .ensures, sample-is) (going _ _ _ _ _ _ _ (l .inv .0) (omega (arith, l .inv .0 .long))),
       record { current = c .before .excitation2 .ensures; rest = c .is-at-rest2 .ensures .0 },
     )
 
@@ -35,7 +35,7 @@ keeps : tie.Need-loop-again-2 Inv-loop μ-loop
 keeps c =
     let s = c .before in
     let l = s .before .before .loop in
-    rw (s .step .ensures) (going _ _ _ _ _ _ _ (l .inv .0) (omega (arith, l .inv .0 .long)), kept _ _ _ _ (not-false _ (c .if1 .left)) (l .inv .1))
+    rw (s .step .ensures, sample-is) (going _ _ _ _ _ _ _ (l .inv .0) (omega (arith, l .inv .0 .long)), kept _ _ _ _ (not-false _ (c .if1 .left)) (l .inv .1))
 
 pub run-spec : {M : Type 1} → statement M
 run-spec =

@@ -1,9 +1,0 @@
--- The question of decay after those of every block.
-use borrow.Author.Needs.{needs}
-use Rattle.analog_bass_drum.specs.AnalogBassDrum.{renderRefusal}
-use Rattle.analog_bass_drum.proofs.asked.Statement.{statement}
-use Rattle.analog_bass_drum.proofs.asked.Tie as tie
-
-pub asked-spec : {M : Type 1} → statement M
-unfolding renderRefusal
-asked-spec = tie.close (tie.spec (λ c κs. search needs) (λ c κs. search needs) (λ c κs. search needs) (λ c. cc))

@@ -1,3 +1,3 @@
 -- The definitions of `analog_snare_drum`.
 pub mod AnalogSnareDrum
-pub mod Rest
+pub mod Excitation

@@ -1,11 +1,13 @@
 // drums/analog_snare_drum.rs: 808 snare drum model, without its sustain mode.
 ghost use mathlib.Core.Path.{_≡_};
-ghost use mathlib.Core.Bool.{true};
+ghost use mathlib.Core.Bool.{true, cond};
 ghost use lib.ListN.{length};
-ghost use Rattle.refusal.specs.Refusal.{answerNumber};
+ghost use lib.Ieee.{lt};
+ghost use Rattle.ieee754.specs.Single.{decimal};
+ghost use Rattle.refusal.specs.Refusal.{answerNumber, noisy};
 ghost use Rattle.block.specs.Block.{samples, after};
 ghost use Rattle.analog_snare_drum.specs.AnalogSnareDrum as spec;
-ghost use Rattle.analog_snare_drum.specs.Rest.{AtRest};
+ghost use Rattle.analog_snare_drum.specs.Excitation.{excitation, AtRest};
 use filter::FilterMode;
 use filter::FrequencyApproximation;
 use filter::Svf;
@@ -28,6 +30,14 @@ pub struct AnalogSnareDrum {
     pub pulse_decay_time: u32,
 }
 
+#[repr(C)]
+pub struct Knobs {
+    pub f0: f32,
+    pub tone: f32,
+    pub decay: f32,
+    pub snappy: f32,
+}
+
 // What `init` answers, and the voice after it.
 pub struct Answered {
     pub answer: Answer,
@@ -41,19 +51,14 @@ pub struct Rendered {
     pub noise: u32,
 }
 
-// What the knobs set for a block.
+// What stays the same over a block. Decay and leak are made of the knob `snappy`; here it is clamped.
 struct Settings {
     q: f32,
     noise_envelope_decay: f32,
     exciter_leak: f32,
     snappy: f32,
+    f0: f32,
     gain: [f32; 5],
-}
-
-// What the loop goes on from: a voice and the noise state beside it.
-struct Sounding {
-    voice: AnalogSnareDrum,
-    noise: u32,
 }
 
 // The pulse and its low-pass after one sample, and what excites the first mode and the others.
@@ -65,8 +70,8 @@ struct Excitation {
     other: f32,
 }
 
-// The voice and the noise state after one sample, and the sample.
-struct Step {
+// The voice and the noise state after one turn, and its sample.
+struct Turn {
     voice: AnalogSnareDrum,
     noise: u32,
     sample: f32,
@@ -84,14 +89,6 @@ struct ShellOutput {
     shell: f32,
 }
 
-// The noise state, the envelope and the filter after one sample, and the noise that they make.
-struct NoiseOutput {
-    state: u32,
-    noise_envelope: f32,
-    noise_filter: Svf,
-    noise: f32,
-}
-
 impl AnalogSnareDrum {
     // Every field zero, for `init` to overwrite.
     pub const ZERO: AnalogSnareDrum = AnalogSnareDrum {
@@ -107,8 +104,8 @@ impl AnalogSnareDrum {
     };
 
     pub fn init(self, sample_rate_hz: f32) -> Answered
-        ensures answer { λ r. ⌜ answerNumber (r .answer) ≡ spec.initRefusal «sample_rate_hz» ⌝ }
-        ensures voice { λ r. ⌜ r .voice ≡ spec.init self «sample_rate_hz» ⌝ }
+        ensures number { λ r. ⌜ answerNumber (r .answer) ≡ spec.init self «sample_rate_hz» .number ⌝ }
+        ensures voice { λ r. ⌜ r .voice ≡ spec.init self «sample_rate_hz» .state ⌝ }
     {
         if refusal::is_sample_rate(sample_rate_hz) {
             let voice = self.initialized(sample_rate_hz);
@@ -148,18 +145,15 @@ impl AnalogSnareDrum {
         noise: u32,
         trigger: bool,
         accent: f32,
-        f0: f32,
-        tone: f32,
-        decay: f32,
-        snappy: f32,
+        knobs: Knobs,
         out: &mut [f32],
     ) -> Rendered
-        ensures answer { λ r. ⌜ answerNumber (r .answer) ≡ spec.renderRefusal (length (now (out .entry))) accent f0 tone decay snappy ⌝ }
-        ensures voice { λ r. ⌜ r .voice ≡ spec.render self noise trigger accent f0 tone decay snappy (length (now (out .entry))) .voice ⌝ }
-        ensures noise { λ r. ⌜ r .noise ≡ spec.render self noise trigger accent f0 tone decay snappy (length (now (out .entry))) .noise ⌝ }
-        ensures block { λ _. ⌜ now (out .exit) ≡ spec.renderOut self noise trigger accent f0 tone decay snappy (now (out .entry)) ⌝ }
+        ensures number { λ r. ⌜ answerNumber (r .answer) ≡ spec.render (noisy self noise) trigger accent knobs (now (out .entry)) .number ⌝ }
+        ensures voice { λ r. ⌜ r .voice ≡ spec.render (noisy self noise) trigger accent knobs (now (out .entry)) .state .voice ⌝ }
+        ensures noise { λ r. ⌜ r .noise ≡ spec.render (noisy self noise) trigger accent knobs (now (out .entry)) .state .noise ⌝ }
+        ensures out { λ _. ⌜ now (out .exit) ≡ spec.render (noisy self noise) trigger accent knobs (now (out .entry)) .out ⌝ }
     {
-        let answer = asked(out.len(), accent, f0, tone, decay, snappy);
+        let answer = knobs.asked(accent, out.len());
         match answer {
             Answer::Refused(_) => Rendered {
                 answer,
@@ -167,22 +161,16 @@ impl AnalogSnareDrum {
                 noise,
             },
             Answer::Accepted => {
-                let settings = Settings::new(tone, decay, snappy);
-                let sounding = self.triggered(trigger, accent)
-                    .tuned(f0, settings.q)
-                    .run(noise, settings, out);
-                let voice = sounding.voice;
-                Rendered {
-                    answer,
-                    voice,
-                    noise: sounding.noise,
-                }
+                let settings = knobs.settings();
+                self.triggered(trigger, accent)
+                    .tuned(settings)
+                    .run(noise, settings, out)
             }
         }
     }
 
     fn triggered(self, trigger: bool, accent: f32) -> Self
-        ensures { λ r. ⌜ r ≡ spec.triggered self trigger accent ⌝ }
+        ensures { λ r. ⌜ r ≡ cond trigger (spec.triggered self accent) self ⌝ }
     {
         if trigger {
             AnalogSnareDrum {
@@ -197,14 +185,21 @@ impl AnalogSnareDrum {
     }
 
     // The six filters set to their frequencies.
-    fn tuned(self, f0: f32, q: f32) -> Self
-        ensures { λ r. ⌜ r ≡ spec.tuned self f0 q ⌝ }
+    fn tuned(self, settings: Settings) -> Self
+        ensures { λ r. ⌜ r ≡ spec.tuned settings self ⌝ }
     {
         let old = self.resonator;
-        let resonator = tuned_modes(old, f0, q);
+        let f0 = settings.f0;
+        let q = settings.q;
+        let r0 = tuned_mode(old[0], f0, MODE_FREQUENCIES[0], q);
+        let r1 = tuned_mode(old[1], f0, MODE_FREQUENCIES[1], q * 0.25);
+        let r2 = tuned_mode(old[2], f0, MODE_FREQUENCIES[2], q * 0.25);
+        let r3 = tuned_mode(old[3], f0, MODE_FREQUENCIES[3], q * 0.25);
+        let r4 = tuned_mode(old[4], f0, MODE_FREQUENCIES[4], q * 0.25);
         let f_noise = ieee754::clamp(f0 * 16.0, 0.0, 0.499);
         let noise_filter = self.noise_filter
             .set_f_q(f_noise, 1.0 + f_noise * 1.5, FrequencyApproximation::Fast);
+        let resonator = [r0, r1, r2, r3, r4];
         AnalogSnareDrum {
             resonator,
             noise_filter,
@@ -212,10 +207,11 @@ impl AnalogSnareDrum {
         }
     }
 
-    // The loop over the block.
-    fn run(self, noise: u32, settings: Settings, out: &mut [f32]) -> Sounding
-        ensures state { λ r. ⌜ r ≡ after (spec.turn settings) (length (now (out .entry))) (spec.sounding self noise) ⌝ }
-        ensures block { λ _. ⌜ now (out .exit) ≡ samples (spec.turn settings) (length (now (out .entry))) (spec.sounding self noise) ⌝ }
+    // The loop over the block of an accepted call.
+    fn run(self, noise: u32, settings: Settings, out: &mut [f32]) -> Rendered
+        ensures number { λ r. ⌜ answerNumber (r .answer) ≡ 0 ⌝ }
+        ensures state { λ r. ⌜ noisy (r .voice) (r .noise) ≡ after (spec.step settings) (length (now (out .entry))) (noisy self noise) ⌝ }
+        ensures out { λ _. ⌜ now (out .exit) ≡ samples (spec.step settings) (length (now (out .entry))) (noisy self noise) ⌝ }
     {
         let mut voice = self;
         let mut state = noise;
@@ -225,17 +221,18 @@ impl AnalogSnareDrum {
         let mut at_rest = voice.is_at_rest(e);
         let mut i = 0;
         while i < out.len() {
-            let s = voice.step(state, settings, e);
-            voice = s.voice;
-            state = s.noise;
-            out[i] = s.sample;
+            let turn = voice.step(state, settings, e);
+            voice = turn.voice;
+            state = turn.noise;
+            out[i] = turn.sample;
             i += 1;
             if !at_rest {
                 e = voice.excitation();
                 at_rest = voice.is_at_rest(e);
             }
         }
-        Sounding {
+        Rendered {
+            answer: Answer::Accepted,
             voice,
             noise: state,
         }
@@ -243,7 +240,7 @@ impl AnalogSnareDrum {
 
     // What the next turn of the loop makes of the pulse.
     fn excitation(self) -> Excitation
-        ensures { λ r. ⌜ r ≡ spec.excitation self ⌝ }
+        ensures { λ r. ⌜ r ≡ excitation self ⌝ }
     {
         // Q45 / Q46
         let trigger_pulse = TriggerPulse {
@@ -278,29 +275,39 @@ impl AnalogSnareDrum {
         ieee754::is_same(e.pulse_lp, self.pulse_lp)
     }
 
-    // One turn of the loop.
-    fn step(self, noise: u32, settings: Settings, e: Excitation) -> Step
-        requires { ⌜ e ≡ spec.excitation self ⌝ }
-        ensures { λ r. ⌜ r ≡ spec.step settings self noise ⌝ }
+    // What is left of the turn.
+    fn step(self, noise: u32, settings: Settings, e: Excitation) -> Turn
+        requires { ⌜ e ≡ excitation self ⌝ }
+        ensures state { λ r. ⌜ noisy (r .voice) (r .noise) ≡ spec.step settings (noisy self noise) .next ⌝ }
+        ensures sample { λ r. ⌜ r .sample ≡ spec.step settings (noisy self noise) .sample ⌝ }
     {
-        let s = self.shell_output(settings, e.first, e.other);
-        let n = self.noise_output(settings, noise);
-        let resonator = s.resonator;
-        let noise_filter = n.noise_filter;
-        let voice = AnalogSnareDrum {
-            pulse_remaining_samples: e.remaining_samples,
-            pulse: e.pulse,
-            pulse_lp: e.pulse_lp,
-            noise_envelope: n.noise_envelope,
-            resonator,
-            noise_filter,
-            ..self
-        };
-        Step {
-            voice,
-            noise: n.state,
+        let shell = self.shell_output(settings, e.first, e.other);
+
+        // C56 / R194 / Q48 / C54 / R188 / D54
+        let draw = random::get_float(noise);
+        let drawn = not_negative(2.0 * draw.value - 1.0);
+        let noise_envelope = self.noise_envelope * settings.noise_envelope_decay;
+
+        // C66 / R201 / C67 / R202 / R203 / Q49
+        let filtered = self.noise_filter.process(
+            drawn * (noise_envelope * settings.snappy * 2.0),
+            FilterMode::BandPass,
+        );
+        let resonator = shell.resonator;
+        let noise_filter = filtered.filter;
+        Turn {
+            voice: AnalogSnareDrum {
+                pulse_remaining_samples: e.remaining_samples,
+                pulse: e.pulse,
+                pulse_lp: e.pulse_lp,
+                noise_envelope,
+                resonator,
+                noise_filter,
+                ..self
+            },
+            noise: draw.word,
             // IC13
-            sample: n.noise + s.shell * (1.0 - settings.snappy),
+            sample: filtered.out + shell.shell * (1.0 - settings.snappy),
         }
     }
 
@@ -327,26 +334,6 @@ impl AnalogSnareDrum {
             shell: utils::soft_clip(m4.shell),
         }
     }
-
-    // C56 / R194 / Q48 / C54 / R188 / D54, and the filter C66 / R201 / C67 / R202 / R203 / Q49
-    fn noise_output(self, settings: Settings, state: u32) -> NoiseOutput
-        ensures { λ r. ⌜ r ≡ spec.noiseOutput settings (self .«noise_envelope») (self .«noise_filter») state ⌝ }
-    {
-        let draw = random::get_float(state);
-        let noise = not_negative(2.0 * draw.value - 1.0);
-        let noise_envelope = self.noise_envelope * settings.noise_envelope_decay;
-        let o = self.noise_filter.process(
-            noise * (noise_envelope * settings.snappy * 2.0),
-            FilterMode::BandPass,
-        );
-        let noise_filter = o.filter;
-        NoiseOutput {
-            state: draw.word,
-            noise_envelope,
-            noise_filter,
-            noise: o.out,
-        }
-    }
 }
 
 // One turn of the loop over the modes.
@@ -368,20 +355,9 @@ fn mode_output(
 }
 
 fn not_negative(noise: f32) -> f32
-    ensures { λ r. ⌜ r ≡ spec.notNegative noise ⌝ }
+    ensures { λ r. ⌜ r ≡ cond (lt noise (decimal 0 0)) (decimal 0 0) noise ⌝ }
 {
     if noise < 0.0 { 0.0 } else { noise }
-}
-
-fn tuned_modes(old: [Svf; 5], f0: f32, q: f32) -> [Svf; 5]
-    ensures { λ r. ⌜ r ≡ spec.tunedModes old f0 q ⌝ }
-{
-    let r0 = tuned_mode(old[0], f0, MODE_FREQUENCIES[0], q);
-    let r1 = tuned_mode(old[1], f0, MODE_FREQUENCIES[1], q * 0.25);
-    let r2 = tuned_mode(old[2], f0, MODE_FREQUENCIES[2], q * 0.25);
-    let r3 = tuned_mode(old[3], f0, MODE_FREQUENCIES[3], q * 0.25);
-    let r4 = tuned_mode(old[4], f0, MODE_FREQUENCIES[4], q * 0.25);
-    [r0, r1, r2, r3, r4]
 }
 
 fn tuned_mode(resonator: Svf, f0: f32, mode_frequency: f32, q: f32) -> Svf
@@ -391,26 +367,32 @@ fn tuned_mode(resonator: Svf, f0: f32, mode_frequency: f32, q: f32) -> Svf
     resonator.set_f_q(f, 1.0 + f * q, FrequencyApproximation::Fast)
 }
 
-// The questions of `render`, in the order of their numbers.
-fn asked(samples: usize, accent: f32, f0: f32, tone: f32, decay: f32, snappy: f32) -> Answer
-    ensures { λ r. ⌜ answerNumber r ≡ spec.renderRefusal samples accent f0 tone decay snappy ⌝ }
-{
-    refusal::ask_block(samples, f0, accent, tone, decay, snappy, Answer::Accepted)
-}
-
-impl Settings {
-    // The lines before the loop. Decay and leak take the knob `snappy` as it is, the loop takes it clamped.
-    fn new(tone: f32, decay: f32, snappy: f32) -> Self
-        ensures { λ r. ⌜ r ≡ spec.settings tone decay snappy ⌝ }
+impl Knobs {
+    // The questions of `render`, the last one first.
+    fn asked(self, accent: f32, samples: usize) -> Answer
+        ensures { λ r. ⌜ answerNumber r ≡ spec.renderRefusal accent self samples ⌝ }
     {
-        let decay_xt = decay * (1.0 + decay * (decay - 1.0));
+        let snappy = refusal::ask_knob(self.snappy, Answer::Accepted);
+        let decay = refusal::ask_knob(self.decay, snappy);
+        let tone = refusal::ask_knob(self.tone, decay);
+        let accent = refusal::ask_accent(accent, tone);
+        let f0 = refusal::ask_frequency(self.f0, accent);
+        refusal::ask_block_length(samples, f0)
+    }
+
+    // The lines before the loop.
+    fn settings(self) -> Settings
+        ensures { λ r. ⌜ r ≡ spec.settings self ⌝ }
+    {
+        let decay_xt = self.decay * (1.0 + self.decay * (self.decay - 1.0));
         Settings {
             q: 2000.0 * units::semitones_to_ratio(decay_xt * 84.0),
             noise_envelope_decay: 1.0
-                - 0.0017 * units::semitones_to_ratio(-decay * (50.0 + snappy * 10.0)),
-            exciter_leak: snappy * (2.0 - snappy) * 0.1,
-            snappy: ieee754::clamp(snappy * 1.1 - 0.05, 0.0, 1.0),
-            gain: gains(tone),
+                - 0.0017 * units::semitones_to_ratio(-self.decay * (50.0 + self.snappy * 10.0)),
+            exciter_leak: self.snappy * (2.0 - self.snappy) * 0.1,
+            snappy: ieee754::clamp(self.snappy * 1.1 - 0.05, 0.0, 1.0),
+            f0: self.f0,
+            gain: gains(self.tone),
         }
     }
 }

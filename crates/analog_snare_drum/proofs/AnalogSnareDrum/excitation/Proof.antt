@@ -1,7 +1,7 @@
 -- Line by line the definition, the last call first.
 use borrow.Author.Needs.{needs}
 use lib.Ieee.{round, ofBits}
-use Rattle.analog_snare_drum.specs.AnalogSnareDrum.{excitation}
+use Rattle.analog_snare_drum.specs.Excitation.{excitation}
 use Rattle.analog_snare_drum.proofs.AnalogSnareDrum.excitation.Statement.{statement}
 use Rattle.analog_snare_drum.proofs.AnalogSnareDrum.excitation.Tie as tie
 

@@ -1,7 +1,9 @@
 -- The number of the answer decides what the call leaves.
 use borrow.Author.Needs.{needs}
-use mathlib.Core.Path.{refl}
+use mathlib.Core.Path.{refl, ap}
+use Rattle.refusal.specs.Refusal.{Noisy}
 use Rattle.refusal.proofs.ByNumber.{zero-of, suc-of}
+use Rattle.analog_snare_drum.specs.declared.AnalogSnareDrum.{AnalogSnareDrum}
 use Rattle.analog_snare_drum.proofs.AnalogSnareDrum.render.Statement.{statement}
 use Rattle.analog_snare_drum.proofs.AnalogSnareDrum.render.Tie as tie
 
@@ -10,13 +12,12 @@ refused c = let known = c .before .before .asked .ensures in (known, rw (suc-of 
 
 accepted : tie.Need-returns-2
 accepted c =
-    let ran = c .before .before .before in
+    let ran = c .before .before in
     let tunes = ran .before .before in
     let set = tunes .before .before in
-    let run = ran .run .ensures in
-    let known = set .before .before .before .asked .ensures in
-    let none = zero-of _ _ known (set .before .enum-told2 .given .1) in
-    (known, rw (run .0, run .1, tunes .tuned .ensures, tunes .before .triggered .ensures, set .new .ensures, none) (refl, (refl, refl)))
+    let none = zero-of _ _ (set .before .before .before .asked .ensures) (set .before .enum-told2 .given .1) in
+    let run = rw (tunes .tuned .ensures, tunes .before .triggered .ensures, set .settings .ensures) at (ran .run .ensures) in
+    rw none (run .0, (ap (λ (s : Noisy AnalogSnareDrum). s .voice) (run .1 .0), (ap (λ (s : Noisy AnalogSnareDrum). s .noise) (run .1 .0), run .1 .1)))
 
 pub render-spec : {M : Type 1} → statement M
 render-spec =

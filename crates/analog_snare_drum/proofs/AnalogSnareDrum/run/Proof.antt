@@ -3,18 +3,21 @@ use borrow.Author.Needs.{needs}
 use borrow.Author.Tests.{not-false}
 use Prim.Native.Nat.{_-_}
 use native.Mathlib.Omega.{arith}
+use mathlib.Core.Path.{refl, sym, subst}
 use lib.ListN.{length, length-set}
+use Rattle.refusal.specs.Refusal.{Noisy, noisy}
 use Rattle.block.specs.Block.{source}
 use Rattle.block.proofs.Blocks.{Going, begin, end-source}
 use Rattle.block.proofs.Blocks.{turn as going}
-use Rattle.analog_snare_drum.specs.AnalogSnareDrum.{sounding, turn}
+use Rattle.analog_snare_drum.specs.AnalogSnareDrum.{step}
+use Rattle.analog_snare_drum.specs.declared.AnalogSnareDrum.{AnalogSnareDrum}
 use Rattle.analog_snare_drum.proofs.Rest.{Kept, kept}
 use Rattle.analog_snare_drum.proofs.AnalogSnareDrum.run.Statement.{statement}
 use Rattle.analog_snare_drum.proofs.AnalogSnareDrum.run.Tie as tie
 
 abbrev Inv-loop : tie.InvT-loop
 Inv-loop noise settings out₀ voice₀ state₀ e₀ at-rest₀ i₀ out voice state e at-rest i =
-    Going (source (turn settings)) (sounding voice₀ state₀) out₀ out₀ (sounding voice state) out i × Kept voice e at-rest
+    Going (source (step settings)) (noisy voice₀ state₀) out₀ out₀ (noisy voice state) out i × Kept voice e at-rest
 
 abbrev μ-loop : tie.MeasureT-loop
 μ-loop noise settings out₀ voice₀ state₀ e₀ at-rest₀ i₀ out voice state e at-rest i = length out - i
@@ -27,7 +30,7 @@ made : tie.Need-loop-again Inv-loop μ-loop
 made c =
     let s = c .before .before .before .before in
     let l = s .before .before .loop in (
-      rw (s .step .ensures) (going _ _ _ _ _ _ _ (l .inv .0) (omega (arith, l .inv .0 .long))),
+      rw (s .step .ensures .0, s .step .ensures .1) (going _ _ _ _ _ _ _ (l .inv .0) (omega (arith, l .inv .0 .long))),
       record { current = c .before .excitation2 .ensures; rest = c .is-at-rest2 .ensures .0 },
     )
 
@@ -35,10 +38,13 @@ keeps : tie.Need-loop-again-2 Inv-loop μ-loop
 keeps c =
     let s = c .before .before in
     let l = s .before .before .loop in
-    rw (s .step .ensures) (going _ _ _ _ _ _ _ (l .inv .0) (omega (arith, l .inv .0 .long)), kept _ _ _ _ _ (not-false _ (c .if1 .left)) (l .inv .1))
+    let next = s .step .ensures .0 in (
+      rw (next, s .step .ensures .1) (going _ _ _ _ _ _ _ (l .inv .0) (omega (arith, l .inv .0 .long))),
+      subst (λ (t : Noisy AnalogSnareDrum). Kept (t .voice) (l .e) (l .at-rest)) (sym next) (kept _ _ _ _ (not-false _ (c .if1 .left)) (l .inv .1)),
+    )
 
 pub run-spec : {M : Type 1} → statement M
 run-spec =
     tie.close (tie.spec Inv-loop μ-loop (λ c κs. search needs) (λ c κs. search needs) loop-holds (λ c κs. search needs) (λ c. search needs)
     (λ c. search needs) (λ c. search needs) (λ c κs. search needs) (λ c κs. search needs) (λ c. simp length-set (omega arith)) made
-    (λ c. simp length-set (omega arith)) keeps (λ c. search needs) (λ c. end-source _ _ _ _ _ _ (c .before .loop .inv .0) (c .loop-test .left)))
+    (λ c. simp length-set (omega arith)) keeps (λ c. search needs) (λ c. (refl, end-source _ _ _ _ _ _ (c .before .loop .inv .0) (c .loop-test .left))))

@@ -1,8 +1,8 @@
 // The 808 bass drum.
 ghost use mathlib.Core.Path.{_≡_};
-ghost use lib.ListN.{length};
 ghost use Rattle.analog_bass_drum.specs.AnalogBassDrum as spec;
 use analog_bass_drum::AnalogBassDrum;
+use analog_bass_drum::Knobs;
 
 // The number of the refusal, 0 for an accepted call, and the voice after the call.
 #[repr(C)]
@@ -25,8 +25,8 @@ pub extern "C" fn bechullpi_analog_bass_drum_init(
     voice: AnalogBassDrum,
     sample_rate_hz: f32,
 ) -> AnalogBassDrumAnswered
-    ensures number { λ r. ⌜ r .number ≡ spec.initRefusal «sample_rate_hz» ⌝ }
-    ensures voice { λ r. ⌜ r .voice ≡ spec.init voice «sample_rate_hz» ⌝ }
+    ensures number { λ r. ⌜ r .number ≡ spec.init voice «sample_rate_hz» .number ⌝ }
+    ensures voice { λ r. ⌜ r .voice ≡ spec.init voice «sample_rate_hz» .state ⌝ }
 {
     let a = voice.init(sample_rate_hz);
     let answer = a.answer;
@@ -43,27 +43,14 @@ pub extern "C" fn bechullpi_analog_bass_drum_render(
     voice: AnalogBassDrum,
     trigger: bool,
     accent: f32,
-    f0: f32,
-    tone: f32,
-    decay: f32,
-    attack_fm_amount: f32,
-    self_fm_amount: f32,
+    knobs: Knobs,
     out: &mut [f32],
 ) -> AnalogBassDrumAnswered
-    ensures number { λ r. ⌜ r .number ≡ spec.renderRefusal (length (now (out .entry))) accent f0 tone decay «attack_fm_amount» «self_fm_amount» ⌝ }
-    ensures voice { λ r. ⌜ r .voice ≡ spec.render voice trigger accent f0 tone decay «attack_fm_amount» «self_fm_amount» (length (now (out .entry))) ⌝ }
-    ensures block { λ _. ⌜ now (out .exit) ≡ spec.renderOut voice trigger accent f0 tone decay «attack_fm_amount» «self_fm_amount» (now (out .entry)) ⌝ }
+    ensures number { λ r. ⌜ r .number ≡ spec.render voice trigger accent knobs (now (out .entry)) .number ⌝ }
+    ensures voice { λ r. ⌜ r .voice ≡ spec.render voice trigger accent knobs (now (out .entry)) .state ⌝ }
+    ensures out { λ _. ⌜ now (out .exit) ≡ spec.render voice trigger accent knobs (now (out .entry)) .out ⌝ }
 {
-    let a = voice.render(
-        trigger,
-        accent,
-        f0,
-        tone,
-        decay,
-        attack_fm_amount,
-        self_fm_amount,
-        out,
-    );
+    let a = voice.render(trigger, accent, knobs, out);
     let answer = a.answer;
     let voice = a.voice;
     AnalogBassDrumAnswered {

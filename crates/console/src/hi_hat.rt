@@ -2,11 +2,13 @@
 ghost use mathlib.Core.Path.{_≡_};
 ghost use lib.ListN.{length};
 ghost use Rattle.block.specs.Block.{samples, after};
+ghost use Rattle.refusal.specs.Refusal.{noisy};
 ghost use Rattle.hihat.specs.SquareNoise as square;
 ghost use Rattle.hihat.specs.Hihat as spec;
 ghost use Rattle.console.specs.Enums.{vcaType};
 use crate::enums;
 use hihat::Hihat;
+use hihat::Knobs;
 use hihat::SquareNoise;
 
 // The number of the refusal, 0 for an accepted call, and the voice after the call.
@@ -35,8 +37,8 @@ pub extern "C" fn bechullpi_hihat_zero() -> Hihat
 // Refused by 1.
 #[no_mangle]
 pub extern "C" fn bechullpi_hihat_init(voice: Hihat, sample_rate: f32) -> HihatAnswered
-    ensures number { λ r. ⌜ r .number ≡ spec.initRefusal «sample_rate» ⌝ }
-    ensures voice { λ r. ⌜ r .voice ≡ spec.init voice «sample_rate» ⌝ }
+    ensures number { λ r. ⌜ r .number ≡ spec.init voice «sample_rate» .number ⌝ }
+    ensures voice { λ r. ⌜ r .voice ≡ spec.init voice «sample_rate» .state ⌝ }
 {
     let a = voice.init(sample_rate);
     let answer = a.answer;
@@ -52,37 +54,17 @@ pub extern "C" fn bechullpi_hihat_init(voice: Hihat, sample_rate: f32) -> HihatA
 pub extern "C" fn bechullpi_hihat_render(
     voice: Hihat,
     noise: u32,
-    sustain: bool,
     trigger: bool,
-    accent: f32,
-    f0: f32,
-    tone: f32,
-    decay: f32,
-    noisiness: f32,
-    out: &mut [f32],
     linear: bool,
-    resonance: bool,
-    two_stage_envelope: bool,
+    knobs: Knobs,
+    out: &mut [f32],
 ) -> HihatRendered
-    ensures number { λ r. ⌜ r .number ≡ spec.renderRefusal (voice .«sample_rate») (length (now (out .entry))) accent f0 tone decay noisiness ⌝ }
-    ensures voice { λ r. ⌜ r .voice ≡ spec.render voice noise sustain trigger accent f0 tone decay noisiness (length (now (out .entry))) (vcaType linear) resonance «two_stage_envelope» ⌝ }
-    ensures noise { λ r. ⌜ r .noise ≡ spec.renderNoise voice noise sustain trigger accent f0 tone decay noisiness (length (now (out .entry))) (vcaType linear) resonance «two_stage_envelope» ⌝ }
-    ensures block { λ _. ⌜ now (out .exit) ≡ spec.renderOut voice noise sustain trigger accent f0 tone decay noisiness (now (out .entry)) (vcaType linear) resonance «two_stage_envelope» ⌝ }
+    ensures number { λ r. ⌜ r .number ≡ spec.render (noisy voice noise) trigger (vcaType linear) knobs (now (out .entry)) .number ⌝ }
+    ensures voice { λ r. ⌜ r .voice ≡ spec.render (noisy voice noise) trigger (vcaType linear) knobs (now (out .entry)) .state .voice ⌝ }
+    ensures noise { λ r. ⌜ r .noise ≡ spec.render (noisy voice noise) trigger (vcaType linear) knobs (now (out .entry)) .state .noise ⌝ }
+    ensures out { λ _. ⌜ now (out .exit) ≡ spec.render (noisy voice noise) trigger (vcaType linear) knobs (now (out .entry)) .out ⌝ }
 {
-    let a = voice.render(
-        noise,
-        sustain,
-        trigger,
-        accent,
-        f0,
-        tone,
-        decay,
-        noisiness,
-        out,
-        enums::vca_type(linear),
-        resonance,
-        two_stage_envelope,
-    );
+    let a = voice.render(noise, trigger, enums::vca_type(linear), knobs, out);
     let answer = a.answer;
     let voice = a.voice;
     HihatRendered {

@@ -1,8 +1,9 @@
 // The 808 snare drum.
 ghost use mathlib.Core.Path.{_≡_};
-ghost use lib.ListN.{length};
+ghost use Rattle.refusal.specs.Refusal.{noisy};
 ghost use Rattle.analog_snare_drum.specs.AnalogSnareDrum as spec;
 use analog_snare_drum::AnalogSnareDrum;
+use analog_snare_drum::Knobs;
 
 // The number of the refusal, 0 for an accepted call, and the voice after the call.
 #[repr(C)]
@@ -33,8 +34,8 @@ pub extern "C" fn bechullpi_analog_snare_drum_init(
     voice: AnalogSnareDrum,
     sample_rate_hz: f32,
 ) -> AnalogSnareDrumAnswered
-    ensures number { λ r. ⌜ r .number ≡ spec.initRefusal «sample_rate_hz» ⌝ }
-    ensures voice { λ r. ⌜ r .voice ≡ spec.init voice «sample_rate_hz» ⌝ }
+    ensures number { λ r. ⌜ r .number ≡ spec.init voice «sample_rate_hz» .number ⌝ }
+    ensures voice { λ r. ⌜ r .voice ≡ spec.init voice «sample_rate_hz» .state ⌝ }
 {
     let a = voice.init(sample_rate_hz);
     let answer = a.answer;
@@ -52,18 +53,15 @@ pub extern "C" fn bechullpi_analog_snare_drum_render(
     noise: u32,
     trigger: bool,
     accent: f32,
-    f0: f32,
-    tone: f32,
-    decay: f32,
-    snappy: f32,
+    knobs: Knobs,
     out: &mut [f32],
 ) -> AnalogSnareDrumRendered
-    ensures number { λ r. ⌜ r .number ≡ spec.renderRefusal (length (now (out .entry))) accent f0 tone decay snappy ⌝ }
-    ensures voice { λ r. ⌜ r .voice ≡ spec.render voice noise trigger accent f0 tone decay snappy (length (now (out .entry))) .voice ⌝ }
-    ensures noise { λ r. ⌜ r .noise ≡ spec.render voice noise trigger accent f0 tone decay snappy (length (now (out .entry))) .noise ⌝ }
-    ensures block { λ _. ⌜ now (out .exit) ≡ spec.renderOut voice noise trigger accent f0 tone decay snappy (now (out .entry)) ⌝ }
+    ensures number { λ r. ⌜ r .number ≡ spec.render (noisy voice noise) trigger accent knobs (now (out .entry)) .number ⌝ }
+    ensures voice { λ r. ⌜ r .voice ≡ spec.render (noisy voice noise) trigger accent knobs (now (out .entry)) .state .voice ⌝ }
+    ensures noise { λ r. ⌜ r .noise ≡ spec.render (noisy voice noise) trigger accent knobs (now (out .entry)) .state .noise ⌝ }
+    ensures out { λ _. ⌜ now (out .exit) ≡ spec.render (noisy voice noise) trigger accent knobs (now (out .entry)) .out ⌝ }
 {
-    let a = voice.render(noise, trigger, accent, f0, tone, decay, snappy, out);
+    let a = voice.render(noise, trigger, accent, knobs, out);
     let answer = a.answer;
     let voice = a.voice;
     AnalogSnareDrumRendered {

@@ -1,7 +1,8 @@
 // The synthetic snare drum.
 ghost use mathlib.Core.Path.{_≡_};
-ghost use lib.ListN.{length};
+ghost use Rattle.refusal.specs.Refusal.{noisy};
 ghost use Rattle.synthetic_snare_drum.specs.SyntheticSnareDrum as spec;
+use synthetic_snare_drum::Knobs;
 use synthetic_snare_drum::SyntheticSnareDrum;
 
 // The number of the refusal, 0 for an accepted call, and the voice after the call.
@@ -33,8 +34,8 @@ pub extern "C" fn bechullpi_synthetic_snare_drum_init(
     voice: SyntheticSnareDrum,
     sample_rate_hz: f32,
 ) -> SyntheticSnareDrumAnswered
-    ensures number { λ r. ⌜ r .number ≡ spec.initRefusal «sample_rate_hz» ⌝ }
-    ensures voice { λ r. ⌜ r .voice ≡ spec.init voice «sample_rate_hz» ⌝ }
+    ensures number { λ r. ⌜ r .number ≡ spec.init voice «sample_rate_hz» .number ⌝ }
+    ensures voice { λ r. ⌜ r .voice ≡ spec.init voice «sample_rate_hz» .state ⌝ }
 {
     let a = voice.init(sample_rate_hz);
     let answer = a.answer;
@@ -50,31 +51,16 @@ pub extern "C" fn bechullpi_synthetic_snare_drum_init(
 pub extern "C" fn bechullpi_synthetic_snare_drum_render(
     voice: SyntheticSnareDrum,
     noise: u32,
-    sustain: bool,
     trigger: bool,
-    accent: f32,
-    f0: f32,
-    fm_amount: f32,
-    decay: f32,
-    snappy: f32,
+    knobs: Knobs,
     out: &mut [f32],
 ) -> SyntheticSnareDrumRendered
-    ensures number { λ r. ⌜ r .number ≡ spec.renderRefusal (voice .«sample_rate_hz») (length (now (out .entry))) accent f0 «fm_amount» decay snappy ⌝ }
-    ensures voice { λ r. ⌜ r .voice ≡ spec.render voice noise sustain trigger accent f0 «fm_amount» decay snappy (length (now (out .entry))) ⌝ }
-    ensures noise { λ r. ⌜ r .noise ≡ spec.renderNoise voice noise sustain trigger accent f0 «fm_amount» decay snappy (length (now (out .entry))) ⌝ }
-    ensures block { λ _. ⌜ now (out .exit) ≡ spec.renderOut voice noise sustain trigger accent f0 «fm_amount» decay snappy (now (out .entry)) ⌝ }
+    ensures number { λ r. ⌜ r .number ≡ spec.render (noisy voice noise) trigger knobs (now (out .entry)) .number ⌝ }
+    ensures voice { λ r. ⌜ r .voice ≡ spec.render (noisy voice noise) trigger knobs (now (out .entry)) .state .voice ⌝ }
+    ensures noise { λ r. ⌜ r .noise ≡ spec.render (noisy voice noise) trigger knobs (now (out .entry)) .state .noise ⌝ }
+    ensures out { λ _. ⌜ now (out .exit) ≡ spec.render (noisy voice noise) trigger knobs (now (out .entry)) .out ⌝ }
 {
-    let a = voice.render(
-        noise,
-        sustain,
-        trigger,
-        accent,
-        f0,
-        fm_amount,
-        decay,
-        snappy,
-        out,
-    );
+    let a = voice.render(noise, trigger, knobs, out);
     let answer = a.answer;
     let voice = a.voice;
     SyntheticSnareDrumRendered {

@@ -57,14 +57,21 @@ static uint32_t start(kit *k)
 static uint32_t render(kit *k, stick now, float part[4][BLOCK])
 {
     float accent = 0.5f + 0.5f * now.speed;
-    bechullpi_analog_bass_drum_answered b =
-        bechullpi_analog_bass_drum_render(k->bass, now.joint, accent, 55.0f / RATE, 0.3f, 0.5f, 0.4f, 0.2f, part[0], BLOCK);
-    bechullpi_analog_snare_drum_rendered s =
-        bechullpi_analog_snare_drum_render(k->snare, k->noise, now.grit, accent, 180.0f / RATE, 0.4f, 0.3f, 0.7f, part[1], BLOCK);
+    bechullpi_analog_bass_drum_answered b = bechullpi_analog_bass_drum_render(
+        k->bass, now.joint, accent,
+        (bechullpi_analog_bass_drum_knobs){.f0 = 55.0f / RATE, .tone = 0.3f, .decay = 0.5f, .attack_fm_amount = 0.4f, .self_fm_amount = 0.2f},
+        part[0], BLOCK);
+    bechullpi_analog_snare_drum_rendered s = bechullpi_analog_snare_drum_render(
+        k->snare, k->noise, now.grit, accent,
+        (bechullpi_analog_snare_drum_knobs){.f0 = 180.0f / RATE, .tone = 0.4f, .decay = 0.3f, .snappy = 0.7f}, part[1], BLOCK);
     bechullpi_synthetic_snare_drum_rendered y = bechullpi_synthetic_snare_drum_render(
-        k->synthetic_snare, s.noise, false, now.stone, accent, 210.0f / RATE, 0.5f, 0.4f, 0.8f, part[2], BLOCK);
+        k->synthetic_snare, s.noise, now.stone,
+        (bechullpi_synthetic_snare_drum_knobs){.accent = accent, .f0 = 210.0f / RATE, .fm_amount = 0.5f, .decay = 0.4f, .snappy = 0.8f},
+        part[2], BLOCK);
     bechullpi_hihat_rendered h = bechullpi_hihat_render(
-        k->hihat, y.noise, false, now.slip, accent, 420.0f / RATE, 0.6f, 0.4f, 0.5f, part[3], BLOCK, BECHULLPI_SWING_VCA, true, false);
+        k->hihat, y.noise, now.slip, BECHULLPI_SWING_VCA,
+        (bechullpi_hihat_knobs){.accent = accent, .f0 = 420.0f / RATE, .tone = 0.6f, .decay = 0.4f, .noisiness = 0.5f, .resonance = true},
+        part[3], BLOCK);
     *k = (kit){b.voice, s.voice, y.voice, h.voice, h.noise};
     return b.number ? b.number : s.number ? s.number : y.number ? y.number : h.number;
 }
@@ -107,8 +114,8 @@ static uint32_t ride(kit *k)
 static void be_refused(const kit *k)
 {
     float out[BLOCK] = {0.25f}, before[BLOCK] = {0.25f};
-    bechullpi_hihat_rendered h = bechullpi_hihat_render(
-        k->hihat, k->noise, false, true, 1.5f, 0.01f, 0.5f, 0.5f, 0.5f, out, BLOCK, BECHULLPI_LINEAR_VCA, false, false);
+    bechullpi_hihat_knobs knobs = {.accent = 1.5f, .f0 = 0.01f, .tone = 0.5f, .decay = 0.5f, .noisiness = 0.5f};
+    bechullpi_hihat_rendered h = bechullpi_hihat_render(k->hihat, k->noise, true, BECHULLPI_LINEAR_VCA, knobs, out, BLOCK);
     bool kept = memcmp(&h.voice, &k->hihat, sizeof h.voice) == 0 && h.noise == k->noise && memcmp(out, before, sizeof out) == 0;
     printf("an accent of 1.5 is refused by %" PRIu32 "; the rest is %s\n", h.number, kept ? "as it was" : "CHANGED");
 }

@@ -196,8 +196,8 @@ static uint32_t of_rendered(uint32_t refusal, size_t samples)
 static reply render_bass(bechullpi_analog_bass_drum *v, const row *r)
 {
     const float *w = r->words;
-    bechullpi_analog_bass_drum_answered a =
-        bechullpi_analog_bass_drum_render(*v, r->trigger, w[0], w[1], w[2], w[3], w[4], w[5], out, r->samples);
+    bechullpi_analog_bass_drum_knobs knobs = {.f0 = w[1], .tone = w[2], .decay = w[3], .attack_fm_amount = w[4], .self_fm_amount = w[5]};
+    bechullpi_analog_bass_drum_answered a = bechullpi_analog_bass_drum_render(*v, r->trigger, w[0], knobs, out, r->samples);
     *v = a.voice;
     return (reply){a.number, r->noise, of_rendered(a.number, r->samples), of_bass(v)};
 }
@@ -216,8 +216,8 @@ static reply play_bass(bechullpi_analog_bass_drum *v, const row *r)
 static reply render_snare(bechullpi_analog_snare_drum *v, const row *r)
 {
     const float *w = r->words;
-    bechullpi_analog_snare_drum_rendered a =
-        bechullpi_analog_snare_drum_render(*v, r->noise, r->trigger, w[0], w[1], w[2], w[3], w[4], out, r->samples);
+    bechullpi_analog_snare_drum_knobs knobs = {.f0 = w[1], .tone = w[2], .decay = w[3], .snappy = w[4]};
+    bechullpi_analog_snare_drum_rendered a = bechullpi_analog_snare_drum_render(*v, r->noise, r->trigger, w[0], knobs, out, r->samples);
     *v = a.voice;
     return (reply){a.number, a.noise, of_rendered(a.number, r->samples), of_snare(v)};
 }
@@ -236,8 +236,9 @@ static reply play_snare(bechullpi_analog_snare_drum *v, const row *r)
 static reply render_synthetic_snare(bechullpi_synthetic_snare_drum *v, const row *r)
 {
     const float *w = r->words;
-    bechullpi_synthetic_snare_drum_rendered a = bechullpi_synthetic_snare_drum_render(
-        *v, r->noise, r->sustain, r->trigger, w[0], w[1], w[2], w[3], w[4], out, r->samples);
+    bechullpi_synthetic_snare_drum_knobs knobs = {
+        .sustain = r->sustain, .accent = w[0], .f0 = w[1], .fm_amount = w[2], .decay = w[3], .snappy = w[4]};
+    bechullpi_synthetic_snare_drum_rendered a = bechullpi_synthetic_snare_drum_render(*v, r->noise, r->trigger, knobs, out, r->samples);
     *v = a.voice;
     return (reply){a.number, a.noise, of_rendered(a.number, r->samples), of_synthetic_snare(v)};
 }
@@ -256,8 +257,9 @@ static reply play_synthetic_snare(bechullpi_synthetic_snare_drum *v, const row *
 static reply render_hihat(bechullpi_hihat *v, const row *r)
 {
     const float *w = r->words;
-    bechullpi_hihat_rendered a = bechullpi_hihat_render(
-        *v, r->noise, r->sustain, r->trigger, w[0], w[1], w[2], w[3], w[4], out, r->samples, r->linear, r->resonance, r->two_stage_envelope);
+    bechullpi_hihat_knobs knobs = {.sustain = r->sustain, .accent = w[0], .f0 = w[1], .tone = w[2], .decay = w[3], .noisiness = w[4],
+                                   .resonance = r->resonance, .two_stage_envelope = r->two_stage_envelope};
+    bechullpi_hihat_rendered a = bechullpi_hihat_render(*v, r->noise, r->trigger, r->linear, knobs, out, r->samples);
     *v = a.voice;
     return (reply){a.number, a.noise, of_rendered(a.number, r->samples), of_hihat(v)};
 }

@@ -15,7 +15,7 @@ static ucontext_t here, there;
 
 // What the calls are given. The flags are set by `most`.
 static float buffer[PLACES], input[PLACES];
-static bool sustain, trigger, linear, resonance, two_stage;
+static bool trigger, linear;
 static bechullpi_one_pole one_pole;
 static bechullpi_svf svf;
 static bechullpi_parameter_interpolator interpolator;
@@ -24,6 +24,12 @@ static bechullpi_analog_snare_drum snare;
 static bechullpi_synthetic_snare_drum synthetic_snare;
 static bechullpi_hihat hihat;
 static bechullpi_square_noise square_noise;
+static const bechullpi_analog_bass_drum_knobs bass_knobs = {
+    .f0 = 0.001f, .tone = 0.5f, .decay = 0.5f, .attack_fm_amount = 0.5f, .self_fm_amount = 0.5f};
+static const bechullpi_analog_snare_drum_knobs snare_knobs = {.f0 = 0.004f, .tone = 0.5f, .decay = 0.5f, .snappy = 0.5f};
+static bechullpi_synthetic_snare_drum_knobs synthetic_snare_knobs = {
+    .accent = 0.9f, .f0 = 0.004f, .fm_amount = 0.5f, .decay = 0.5f, .snappy = 0.5f};
+static bechullpi_hihat_knobs hihat_knobs = {.accent = 0.9f, .f0 = 0.01f, .tone = 0.5f, .decay = 0.5f, .noisiness = 0.5f};
 static uint8_t sheet[4096];
 static size_t sheet_bytes;
 
@@ -83,16 +89,16 @@ static size_t sheet_bytes;
 #define VOICES(CALL) \
     CALL(analog_bass_drum_zero, ()) \
     CALL(analog_bass_drum_init, (bass, 48000.0f)) \
-    CALL(analog_bass_drum_render, (bass, trigger, 0.9f, 0.001f, 0.5f, 0.5f, 0.5f, 0.5f, buffer, PLACES)) \
+    CALL(analog_bass_drum_render, (bass, trigger, 0.9f, bass_knobs, buffer, PLACES)) \
     CALL(analog_snare_drum_zero, ()) \
     CALL(analog_snare_drum_init, (snare, 48000.0f)) \
-    CALL(analog_snare_drum_render, (snare, 33, trigger, 0.9f, 0.004f, 0.5f, 0.5f, 0.5f, buffer, PLACES)) \
+    CALL(analog_snare_drum_render, (snare, 33, trigger, 0.9f, snare_knobs, buffer, PLACES)) \
     CALL(synthetic_snare_drum_zero, ()) \
     CALL(synthetic_snare_drum_init, (synthetic_snare, 48000.0f)) \
-    CALL(synthetic_snare_drum_render, (synthetic_snare, 33, sustain, trigger, 0.9f, 0.004f, 0.5f, 0.5f, 0.5f, buffer, PLACES)) \
+    CALL(synthetic_snare_drum_render, (synthetic_snare, 33, trigger, synthetic_snare_knobs, buffer, PLACES)) \
     CALL(hihat_zero, ()) \
     CALL(hihat_init, (hihat, 48000.0f)) \
-    CALL(hihat_render, (hihat, 33, sustain, trigger, 0.9f, 0.01f, 0.5f, 0.5f, 0.5f, buffer, PLACES, linear, resonance, two_stage)) \
+    CALL(hihat_render, (hihat, 33, trigger, linear, hihat_knobs, buffer, PLACES)) \
     CALL(hihat_square_noise_zero, ()) \
     CALL(hihat_square_noise_init, (square_noise)) \
     CALL(hihat_square_noise_render, (square_noise, 0.01f, buffer, PLACES))
@@ -133,11 +139,11 @@ static size_t most(const caller *calls, size_t count)
     size_t most = 0;
     for (unsigned k = 0; k < count * FLAGS * 2; k++) {
         unsigned flags = k / 2 % FLAGS;
-        sustain = flags & 1;
+        synthetic_snare_knobs.sustain = hihat_knobs.sustain = flags & 1;
         trigger = flags & 2;
         linear = flags & 4;
-        resonance = flags & 8;
-        two_stage = flags & 16;
+        hihat_knobs.resonance = flags & 8;
+        hihat_knobs.two_stage_envelope = flags & 16;
         size_t n = used(calls[k / 2 / FLAGS], k % 2 ? 0xa5 : 0x5a);
         most = n > most ? n : most;
     }

@@ -22,13 +22,16 @@ pub fn sheet(sheet: &[u8], out: &mut [f32]) -> SheetAnswered {
 /// accent, f0, a, decay, c as in a cue line, and the bass's self_fm_amount.
 pub type Knobs = [f32; 6];
 
-pub fn bass_render(voice: AnalogBassDrum, trigger: bool, [accent, f0, tone, decay, attack_fm, self_fm]: Knobs, out: &mut [f32]) -> AnalogBassDrumAnswered {
-    unsafe { bechullpi_analog_bass_drum_render(voice, trigger, accent, f0, tone, decay, attack_fm, self_fm, out.as_mut_ptr(), out.len()) }
+pub fn bass_render(voice: AnalogBassDrum, trigger: bool, knobs: Knobs, out: &mut [f32]) -> AnalogBassDrumAnswered {
+    let [accent, f0, tone, decay, attack_fm_amount, self_fm_amount] = knobs;
+    let knobs = AnalogBassDrumKnobs { f0, tone, decay, attack_fm_amount, self_fm_amount };
+    unsafe { bechullpi_analog_bass_drum_render(voice, trigger, accent, knobs, out.as_mut_ptr(), out.len()) }
 }
 
 pub fn snare_render(voice: AnalogSnareDrum, noise: u32, trigger: bool, knobs: Knobs, out: &mut [f32]) -> AnalogSnareDrumRendered {
     let [accent, f0, tone, decay, snappy, _] = knobs;
-    unsafe { bechullpi_analog_snare_drum_render(voice, noise, trigger, accent, f0, tone, decay, snappy, out.as_mut_ptr(), out.len()) }
+    let knobs = AnalogSnareDrumKnobs { f0, tone, decay, snappy };
+    unsafe { bechullpi_analog_snare_drum_render(voice, noise, trigger, accent, knobs, out.as_mut_ptr(), out.len()) }
 }
 
 pub fn synthetic_snare_render(
@@ -38,21 +41,19 @@ pub fn synthetic_snare_render(
     [accent, f0, fm_amount, decay, snappy, _]: Knobs,
     out: &mut [f32],
 ) -> SyntheticSnareDrumRendered {
-    let (places, length) = (out.as_mut_ptr(), out.len());
-    unsafe { bechullpi_synthetic_snare_drum_render(voice, noise, sustain, trigger, accent, f0, fm_amount, decay, snappy, places, length) }
+    let knobs = SyntheticSnareDrumKnobs { sustain, accent, f0, fm_amount, decay, snappy };
+    unsafe { bechullpi_synthetic_snare_drum_render(voice, noise, trigger, knobs, out.as_mut_ptr(), out.len()) }
 }
 
 pub fn hihat_render(
     voice: Hihat,
     noise: u32,
-    [sustain, trigger, linear, resonance, two_stage]: [bool; 5],
+    [sustain, trigger, linear, resonance, two_stage_envelope]: [bool; 5],
     [accent, f0, tone, decay, noisiness, _]: Knobs,
     out: &mut [f32],
 ) -> HihatRendered {
-    let (places, length) = (out.as_mut_ptr(), out.len());
-    unsafe {
-        bechullpi_hihat_render(voice, noise, sustain, trigger, accent, f0, tone, decay, noisiness, places, length, linear, resonance, two_stage)
-    }
+    let knobs = HihatKnobs { sustain, accent, f0, tone, decay, noisiness, resonance, two_stage_envelope };
+    unsafe { bechullpi_hihat_render(voice, noise, trigger, linear, knobs, out.as_mut_ptr(), out.len()) }
 }
 
 /// The records that calls are played on.

@@ -41,93 +41,72 @@ strike knobs = record { struck = true; trigger = true; knobs = knobs }
 abbrev pub held : Playing → Playing
 held p = record { struck = p .struck; trigger = false; knobs = p .knobs }
 
--- `..Into p noise out`: the segment `out`, with what the part renders added to it; a part that is not struck adds nothing
--- `..After p noise n`: the part after a segment of n samples, and the noise state that it hands on; a part that is not struck draws no noise
+-- ---- the knobs of each voice, and its call in a segment of n samples, into a silent scratch
 
--- ---- b: a is tone, c is attack_fm_amount, and self_fm_amount is 0.0
-module _ (p : BassPart) where
-  unfoldable pub bassInto : List Float → List Float
-  bassInto out =
-      let k = p .playing .knobs in
-      cond (p .playing .struck)
-      (added out
-      (AnalogBassDrum.renderOut (p .voice) (p .playing .trigger) (k .accent) (k .f0) (k .a) (k .decay) (k .c) (decimal 0 0)
-      (silence (length out))))
-      out
+-- b: a is tone, c is attack_fm_amount, and self_fm_amount is 0.0
+unfoldable pub ofBass : Knobs → AnalogBassDrum.Knobs
+ofBass k = record { f0 = k .f0; tone = k .a; decay = k .decay; «attack_fm_amount» = k .c; «self_fm_amount» = decimal 0 0 }
 
-  unfoldable pub bassAfter : ℕ → BassPart
-  bassAfter n =
-      let k = p .playing .knobs in
-      cond (p .playing .struck)
-      (record {
-        voice = AnalogBassDrum.render (p .voice) (p .playing .trigger) (k .accent) (k .f0) (k .a) (k .decay) (k .c) (decimal 0 0) n;
-        playing = held (p .playing);
-      })
-      p
+abbrev pub bassCall : BassPart → ℕ → Call AnalogBassDrum.AnalogBassDrum
+bassCall p n = AnalogBassDrum.render (p .voice) (p .playing .trigger) (p .playing .knobs .accent) (ofBass (p .playing .knobs)) (silence n)
 
--- ---- s: a is tone, c is snappy
-module _ (p : SnarePart) (noise : ℕ) where
-  unfoldable pub snareInto : List Float → List Float
-  snareInto out =
-      let k = p .playing .knobs in
-      cond (p .playing .struck)
-      (added out
-      (AnalogSnareDrum.renderOut (p .voice) noise (p .playing .trigger) (k .accent) (k .f0) (k .a) (k .decay) (k .c)
-      (silence (length out))))
-      out
+-- s: a is tone, c is snappy
+abbrev pub ofSnare : Knobs → AnalogSnareDrum.Knobs
+ofSnare k = record { f0 = k .f0; tone = k .a; decay = k .decay; snappy = k .c }
 
-  unfoldable pub snareAfter : ℕ → SnarePlayed
-  snareAfter n =
-      let k = p .playing .knobs in
-      let r = AnalogSnareDrum.render (p .voice) noise (p .playing .trigger) (k .accent) (k .f0) (k .a) (k .decay) (k .c) n in
-      cond (p .playing .struck)
-      (record { part = record { voice = r .voice; playing = held (p .playing) }; noise = r .noise })
-      (record { part = p; noise = noise })
+abbrev pub snareCall : SnarePart → ℕ → ℕ → Call (Noisy AnalogSnareDrum.AnalogSnareDrum)
+snareCall p noise n =
+    AnalogSnareDrum.render (noisy (p .voice) noise) (p .playing .trigger) (p .playing .knobs .accent) (ofSnare (p .playing .knobs)) (silence n)
 
--- ---- y: a is fm_amount, c is snappy; it does not sustain
-module _ (p : SyntheticSnarePart) (noise : ℕ) where
-  unfoldable pub syntheticSnareInto : List Float → List Float
-  syntheticSnareInto out =
-      let k = p .playing .knobs in
-      cond (p .playing .struck)
-      (added out
-      (SyntheticSnareDrum.renderOut (p .voice) noise false (p .playing .trigger) (k .accent) (k .f0) (k .a) (k .decay) (k .c)
-      (silence (length out))))
-      out
+-- y: a is fm_amount, c is snappy; it does not sustain
+abbrev pub ofSyntheticSnare : Knobs → SyntheticSnareDrum.Knobs
+ofSyntheticSnare k = record { sustain = false; accent = k .accent; f0 = k .f0; «fm_amount» = k .a; decay = k .decay; snappy = k .c }
 
-  unfoldable pub syntheticSnareAfter : ℕ → SyntheticSnarePlayed
-  syntheticSnareAfter n =
-      let k = p .playing .knobs in
-      cond (p .playing .struck)
-      (record {
-        part = record {
-          voice = SyntheticSnareDrum.render (p .voice) noise false (p .playing .trigger) (k .accent) (k .f0) (k .a) (k .decay) (k .c) n;
-          playing = held (p .playing);
-        };
-        noise = SyntheticSnareDrum.renderNoise (p .voice) noise false (p .playing .trigger) (k .accent) (k .f0) (k .a) (k .decay) (k .c) n;
-      })
-      (record { part = p; noise = noise })
+abbrev pub syntheticSnareCall : SyntheticSnarePart → ℕ → ℕ → Call (Noisy SyntheticSnareDrum.SyntheticSnareDrum)
+syntheticSnareCall p noise n =
+    SyntheticSnareDrum.render (noisy (p .voice) noise) (p .playing .trigger) (ofSyntheticSnare (p .playing .knobs)) (silence n)
 
--- ---- h: a is tone, c is noisiness; Swing, with resonance, without a two-stage envelope; it does not sustain
-module _ (p : HihatPart) (noise : ℕ) where
-  unfoldable pub hihatInto : List Float → List Float
-  hihatInto out =
-      let k = p .playing .knobs in
-      cond (p .playing .struck)
-      (added out
-      (hihat.renderOut (p .voice) noise false (p .playing .trigger) (k .accent) (k .f0) (k .a) (k .decay) (k .c)
-      (silence (length out)) Swing true false))
-      out
+-- h: a is tone, c is noisiness; Swing, with resonance, without a two-stage envelope; it does not sustain
+abbrev pub ofHihat : Knobs → hihat.Knobs
+ofHihat k = record {
+  sustain = false;
+  accent = k .accent;
+  f0 = k .f0;
+  tone = k .a;
+  decay = k .decay;
+  noisiness = k .c;
+  resonance = true;
+  «two_stage_envelope» = false;
+}
 
-  unfoldable pub hihatAfter : ℕ → HihatPlayed
-  hihatAfter n =
-      let k = p .playing .knobs in
-      cond (p .playing .struck)
-      (record {
-        part = record {
-          voice = hihat.render (p .voice) noise false (p .playing .trigger) (k .accent) (k .f0) (k .a) (k .decay) (k .c) n Swing true false;
-          playing = held (p .playing);
-        };
-        noise = hihat.renderNoise (p .voice) noise false (p .playing .trigger) (k .accent) (k .f0) (k .a) (k .decay) (k .c) n Swing true false;
-      })
-      (record { part = p; noise = noise })
+abbrev pub hihatCall : HihatPart → ℕ → ℕ → Call (Noisy hihat.Hihat)
+hihatCall p noise n = hihat.render (noisy (p .voice) noise) (p .playing .trigger) Swing (ofHihat (p .playing .knobs)) (silence n)
+
+-- ---- the segment with what a part renders added to it: one that is not struck adds nothing
+unfoldable pub into : {State : Type 0} → Playing → Call State → List Float → List Float
+into p call out = cond (p .struck) (added out (call .out)) out
+
+-- ---- a part after a segment of n samples, and the noise state that it hands on; one that is not struck draws no noise
+unfoldable pub bassAfter : BassPart → ℕ → BassPart
+bassAfter p n = cond (p .playing .struck) (record { voice = bassCall p n .state; playing = held (p .playing) }) p
+
+unfoldable pub snareAfter : SnarePart → ℕ → ℕ → SnarePlayed
+snareAfter p noise n =
+    let s = snareCall p noise n .state in
+    cond (p .playing .struck)
+    (record { part = record { voice = s .voice; playing = held (p .playing) }; noise = s .noise })
+    (record { part = p; noise = noise })
+
+unfoldable pub syntheticSnareAfter : SyntheticSnarePart → ℕ → ℕ → SyntheticSnarePlayed
+syntheticSnareAfter p noise n =
+    let s = syntheticSnareCall p noise n .state in
+    cond (p .playing .struck)
+    (record { part = record { voice = s .voice; playing = held (p .playing) }; noise = s .noise })
+    (record { part = p; noise = noise })
+
+unfoldable pub hihatAfter : HihatPart → ℕ → ℕ → HihatPlayed
+hihatAfter p noise n =
+    let s = hihatCall p noise n .state in
+    cond (p .playing .struck)
+    (record { part = record { voice = s .voice; playing = held (p .playing) }; noise = s .noise })
+    (record { part = p; noise = noise })

@@ -109,6 +109,57 @@ impl Knobs {
             } => Knobs::new(accent, f0, tone, decay, noisiness),
         }
     }
+
+    fn of_bass(self) -> analog_bass_drum::Knobs
+        ensures { λ r. ⌜ r ≡ spec.ofBass self ⌝ }
+    {
+        analog_bass_drum::Knobs {
+            f0: self.f0,
+            tone: self.a,
+            decay: self.decay,
+            attack_fm_amount: self.c,
+            self_fm_amount: 0.0,
+        }
+    }
+
+    fn of_snare(self) -> analog_snare_drum::Knobs
+        ensures { λ r. ⌜ r ≡ spec.ofSnare self ⌝ }
+    {
+        analog_snare_drum::Knobs {
+            f0: self.f0,
+            tone: self.a,
+            decay: self.decay,
+            snappy: self.c,
+        }
+    }
+
+    fn of_synthetic_snare(self) -> synthetic_snare_drum::Knobs
+        ensures { λ r. ⌜ r ≡ spec.ofSyntheticSnare self ⌝ }
+    {
+        synthetic_snare_drum::Knobs {
+            sustain: false,
+            accent: self.accent,
+            f0: self.f0,
+            fm_amount: self.a,
+            decay: self.decay,
+            snappy: self.c,
+        }
+    }
+
+    fn of_hihat(self) -> hihat::Knobs
+        ensures { λ r. ⌜ r ≡ spec.ofHihat self ⌝ }
+    {
+        hihat::Knobs {
+            sustain: false,
+            accent: self.accent,
+            f0: self.f0,
+            tone: self.a,
+            decay: self.decay,
+            noisiness: self.c,
+            resonance: true,
+            two_stage_envelope: false,
+        }
+    }
 }
 
 impl Playing {
@@ -149,16 +200,8 @@ impl BassPart {
         }
         let k = playing.knobs;
         mix::clear(scratch);
-        let r = self.voice.render(
-            playing.trigger,
-            k.accent,
-            k.f0,
-            k.a,
-            k.decay,
-            k.c,
-            0.0,
-            scratch,
-        );
+        let r = self.voice
+            .render(playing.trigger, k.accent, k.of_bass(), scratch);
         mix::add_to(out, scratch);
         let voice = r.voice;
         BassPart {
@@ -180,16 +223,8 @@ impl SnarePart {
         }
         let k = playing.knobs;
         mix::clear(scratch);
-        let r = self.voice.render(
-            noise,
-            playing.trigger,
-            k.accent,
-            k.f0,
-            k.a,
-            k.decay,
-            k.c,
-            scratch,
-        );
+        let r = self.voice
+            .render(noise, playing.trigger, k.accent, k.of_snare(), scratch);
         mix::add_to(out, scratch);
         let voice = r.voice;
         SnarePlayed {
@@ -219,17 +254,8 @@ impl SyntheticSnarePart {
         }
         let k = playing.knobs;
         mix::clear(scratch);
-        let r = self.voice.render(
-            noise,
-            false,
-            playing.trigger,
-            k.accent,
-            k.f0,
-            k.a,
-            k.decay,
-            k.c,
-            scratch,
-        );
+        let r = self.voice
+            .render(noise, playing.trigger, k.of_synthetic_snare(), scratch);
         mix::add_to(out, scratch);
         let voice = r.voice;
         SyntheticSnarePlayed {
@@ -254,20 +280,8 @@ impl HihatPart {
         }
         let k = playing.knobs;
         mix::clear(scratch);
-        let r = self.voice.render(
-            noise,
-            false,
-            playing.trigger,
-            k.accent,
-            k.f0,
-            k.a,
-            k.decay,
-            k.c,
-            scratch,
-            VcaType::Swing,
-            true,
-            false,
-        );
+        let r = self.voice
+            .render(noise, playing.trigger, VcaType::Swing, k.of_hihat(), scratch);
         mix::add_to(out, scratch);
         let voice = r.voice;
         HihatPlayed {

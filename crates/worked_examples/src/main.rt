@@ -17,7 +17,14 @@ fn print(example: &[u8], answer: Answer) {
 fn struck(f0: f32, out: &mut [f32]) -> Answer {
     let started = AnalogBassDrum::ZERO.init(48000.0);
     let voice = started.voice;
-    let rendered = voice.render(true, 1.0, f0, 0.5, 0.5, 0.0, 0.0, out);
+    let knobs = analog_bass_drum::Knobs {
+        f0,
+        tone: 0.5,
+        decay: 0.5,
+        attack_fm_amount: 0.0,
+        self_fm_amount: 0.0,
+    };
+    let rendered = voice.render(true, 1.0, knobs, out);
     rendered.answer
 }
 
@@ -28,20 +35,17 @@ fn started(rate: f32) -> Answer {
 
 // A hi-hat whose record holds no rate.
 fn struck_unstarted(f0: f32, out: &mut [f32]) -> Answer {
-    let rendered = Hihat::ZERO.render(
-        33,
-        false,
-        true,
-        1.0,
+    let knobs = hihat::Knobs {
+        sustain: false,
+        accent: 1.0,
         f0,
-        0.5,
-        0.5,
-        0.5,
-        out,
-        VcaType::Swing,
-        true,
-        false,
-    );
+        tone: 0.5,
+        decay: 0.5,
+        noisiness: 0.5,
+        resonance: true,
+        two_stage_envelope: false,
+    };
+    let rendered = Hihat::ZERO.render(33, true, VcaType::Swing, knobs, out);
     rendered.answer
 }
 

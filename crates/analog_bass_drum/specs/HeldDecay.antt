@@ -41,7 +41,7 @@ decayPitch decay = pitchOf (decay ⊗ decimal 80 0)
 abbrev pub IsPast : Float → Type 0
 IsPast decay = T (within firstPast (decimal 2 0) decay)
 
--- `lastInTables` has a place in the tables; `firstPast` and every longer decay have none, and a call with one of them is the call with `lastInTables`.
+-- lastInTables has a place in the tables; firstPast and every longer decay have none, and a call with one of them is the call with lastInTables
 pub record HeldDecay : Type 0 where
   pub last : InTables (decayPitch lastInTables)
   pub past : (decay : Float) → IsPast decay → T (le (decimal 256 0) (decayPitch decay))

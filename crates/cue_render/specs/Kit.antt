@@ -13,7 +13,7 @@ use Rattle.cue_render.specs.Mix.{silence}
 use Rattle.cue_sheet.specs.declared.Cue.{Cue}
 use Rattle.cue_sheet.specs.declared.Cue.the-variants.{Bass, Snare, SyntheticSnare, Hihat}
 use Rattle.cue_render.specs.Part as Part
-use Rattle.cue_render.specs.Part.{knobsOf, bassInto, bassAfter, snareInto, snareAfter, syntheticSnareInto, syntheticSnareAfter, hihatInto, hihatAfter}
+use Rattle.cue_render.specs.Part.{knobsOf, into, bassCall, bassAfter, snareCall, snareAfter, syntheticSnareCall, syntheticSnareAfter, hihatCall, hihatAfter}
 use Rattle.cue_render.specs.declared.part.Playing.{Playing}
 use Rattle.cue_render.specs.declared.kit.Kit.{Kit}
 
@@ -30,10 +30,10 @@ unfoldable pub start : ℕ → Kit
 start rate =
     let sampleRate = ofInt binary32 (pos rate) in
     record {
-      bass = record { voice = AnalogBassDrum.init AnalogBassDrum.ZERO sampleRate; playing = unstruck };
-      snare = record { voice = AnalogSnareDrum.init AnalogSnareDrum.ZERO sampleRate; playing = unstruck };
-      «synthetic_snare» = record { voice = SyntheticSnareDrum.init SyntheticSnareDrum.ZERO sampleRate; playing = unstruck };
-      hihat = record { voice = hihat.init hihat.ZERO sampleRate; playing = unstruck };
+      bass = record { voice = AnalogBassDrum.init AnalogBassDrum.ZERO sampleRate .state; playing = unstruck };
+      snare = record { voice = AnalogSnareDrum.init AnalogSnareDrum.ZERO sampleRate .state; playing = unstruck };
+      «synthetic_snare» = record { voice = SyntheticSnareDrum.init SyntheticSnareDrum.ZERO sampleRate .state; playing = unstruck };
+      hihat = record { voice = hihat.init hihat.ZERO sampleRate .state; playing = unstruck };
       noise = 33;
     }
 
@@ -42,7 +42,11 @@ unfoldable pub segment : Kit → ℕ → List Float
 segment k n =
     let s = snareAfter (k .snare) (k .noise) n in
     let y = syntheticSnareAfter (k .«synthetic_snare») (s .noise) n in
-    hihatInto (k .hihat) (y .noise) (syntheticSnareInto (k .«synthetic_snare») (s .noise) (snareInto (k .snare) (k .noise) (bassInto (k .bass) (silence n))))
+    into (k .hihat .playing) (hihatCall (k .hihat) (y .noise) n)
+    (into (k .«synthetic_snare» .playing) (syntheticSnareCall (k .«synthetic_snare») (s .noise) n)
+    (into (k .snare .playing) (snareCall (k .snare) (k .noise) n)
+    (into (k .bass .playing) (bassCall (k .bass) n)
+    (silence n))))
 
 unfoldable pub afterSegment : Kit → ℕ → Kit
 afterSegment k n =

@@ -5,10 +5,19 @@ use mathlib.Core.List.{List}
 use lib.ListN.{length}
 use lib.Ieee.{Float}
 use Rattle.ieee754.specs.Single.{decimal}
-use Rattle.analog_bass_drum.specs.AnalogBassDrum as AnalogBassDrum
-use Rattle.analog_snare_drum.specs.AnalogSnareDrum as AnalogSnareDrum
-use Rattle.synthetic_snare_drum.specs.SyntheticSnareDrum as SyntheticSnareDrum
+use Rattle.refusal.specs.Refusal.{Noisy, noisy, Call}
+use Rattle.analog_bass_drum.specs.AnalogBassDrum as bass
+use Rattle.analog_bass_drum.specs.declared.AnalogBassDrum.{AnalogBassDrum}
+use Rattle.analog_bass_drum.specs.declared.Knobs.{Knobs as BassKnobs}
+use Rattle.analog_snare_drum.specs.AnalogSnareDrum as snare
+use Rattle.analog_snare_drum.specs.declared.AnalogSnareDrum.{AnalogSnareDrum}
+use Rattle.analog_snare_drum.specs.declared.Knobs.{Knobs as SnareKnobs}
+use Rattle.synthetic_snare_drum.specs.SyntheticSnareDrum as synthetic-snare
+use Rattle.synthetic_snare_drum.specs.declared.SyntheticSnareDrum.{SyntheticSnareDrum}
+use Rattle.synthetic_snare_drum.specs.declared.Knobs.{Knobs as SyntheticSnareKnobs}
 use Rattle.hihat.specs.Hihat as hihat
+use Rattle.hihat.specs.declared.Hihat.{Hihat as HihatVoice}
+use Rattle.hihat.specs.declared.Knobs.{Knobs as HihatKnobs}
 use Rattle.hihat.specs.declared.VcaType.the-variants.{Swing}
 use Rattle.cue_sheet.specs.declared.Cue.{Cue}
 use Rattle.cue_sheet.specs.declared.Cue.the-variants.{Bass, Snare, SyntheticSnare, Hihat}
@@ -44,30 +53,30 @@ held p = record { struck = p .struck; trigger = false; knobs = p .knobs }
 -- ---- the knobs of each voice, and its call in a segment of n samples, into a silent scratch
 
 -- b: a is tone, c is attack_fm_amount, and self_fm_amount is 0.0
-unfoldable pub ofBass : Knobs → AnalogBassDrum.Knobs
+unfoldable pub ofBass : Knobs → BassKnobs
 ofBass k = record { f0 = k .f0; tone = k .a; decay = k .decay; «attack_fm_amount» = k .c; «self_fm_amount» = decimal 0 0 }
 
-abbrev pub bassCall : BassPart → ℕ → Call AnalogBassDrum.AnalogBassDrum
-bassCall p n = AnalogBassDrum.render (p .voice) (p .playing .trigger) (p .playing .knobs .accent) (ofBass (p .playing .knobs)) (silence n)
+unfoldable pub bassCall : BassPart → ℕ → Call AnalogBassDrum
+bassCall p n = bass.render (p .voice) (p .playing .trigger) (p .playing .knobs .accent) (ofBass (p .playing .knobs)) (silence n)
 
 -- s: a is tone, c is snappy
-abbrev pub ofSnare : Knobs → AnalogSnareDrum.Knobs
+abbrev pub ofSnare : Knobs → SnareKnobs
 ofSnare k = record { f0 = k .f0; tone = k .a; decay = k .decay; snappy = k .c }
 
-abbrev pub snareCall : SnarePart → ℕ → ℕ → Call (Noisy AnalogSnareDrum.AnalogSnareDrum)
+unfoldable pub snareCall : SnarePart → ℕ → ℕ → Call (Noisy AnalogSnareDrum)
 snareCall p noise n =
-    AnalogSnareDrum.render (noisy (p .voice) noise) (p .playing .trigger) (p .playing .knobs .accent) (ofSnare (p .playing .knobs)) (silence n)
+    snare.render (noisy (p .voice) noise) (p .playing .trigger) (p .playing .knobs .accent) (ofSnare (p .playing .knobs)) (silence n)
 
 -- y: a is fm_amount, c is snappy; it does not sustain
-abbrev pub ofSyntheticSnare : Knobs → SyntheticSnareDrum.Knobs
+abbrev pub ofSyntheticSnare : Knobs → SyntheticSnareKnobs
 ofSyntheticSnare k = record { sustain = false; accent = k .accent; f0 = k .f0; «fm_amount» = k .a; decay = k .decay; snappy = k .c }
 
-abbrev pub syntheticSnareCall : SyntheticSnarePart → ℕ → ℕ → Call (Noisy SyntheticSnareDrum.SyntheticSnareDrum)
+unfoldable pub syntheticSnareCall : SyntheticSnarePart → ℕ → ℕ → Call (Noisy SyntheticSnareDrum)
 syntheticSnareCall p noise n =
-    SyntheticSnareDrum.render (noisy (p .voice) noise) (p .playing .trigger) (ofSyntheticSnare (p .playing .knobs)) (silence n)
+    synthetic-snare.render (noisy (p .voice) noise) (p .playing .trigger) (ofSyntheticSnare (p .playing .knobs)) (silence n)
 
 -- h: a is tone, c is noisiness; Swing, with resonance, without a two-stage envelope; it does not sustain
-abbrev pub ofHihat : Knobs → hihat.Knobs
+abbrev pub ofHihat : Knobs → HihatKnobs
 ofHihat k = record {
   sustain = false;
   accent = k .accent;
@@ -79,7 +88,7 @@ ofHihat k = record {
   «two_stage_envelope» = false;
 }
 
-abbrev pub hihatCall : HihatPart → ℕ → ℕ → Call (Noisy hihat.Hihat)
+unfoldable pub hihatCall : HihatPart → ℕ → ℕ → Call (Noisy HihatVoice)
 hihatCall p noise n = hihat.render (noisy (p .voice) noise) (p .playing .trigger) Swing (ofHihat (p .playing .knobs)) (silence n)
 
 -- ---- the segment with what a part renders added to it: one that is not struck adds nothing

@@ -192,7 +192,7 @@ impl BassPart {
     pub(crate) fn play(self, out: &mut [f32], scratch: &mut [f32]) -> Self
         requires { ⌜ length (now scratch) ≡ length (now out) ⌝ }
         ensures part { λ r. ⌜ r ≡ spec.bassAfter self (length (now (out .entry))) ⌝ }
-        ensures block { λ _. ⌜ now (out .exit) ≡ spec.bassInto self (now (out .entry)) ⌝ }
+        ensures block { λ _. ⌜ now (out .exit) ≡ spec.into (self .playing) (spec.bassCall self (length (now (out .entry)))) (now (out .entry)) ⌝ }
     {
         let playing = self.playing;
         if !playing.struck {
@@ -215,7 +215,7 @@ impl SnarePart {
     pub(crate) fn play(self, noise: u32, out: &mut [f32], scratch: &mut [f32]) -> SnarePlayed
         requires { ⌜ length (now scratch) ≡ length (now out) ⌝ }
         ensures played { λ r. ⌜ r ≡ spec.snareAfter self noise (length (now (out .entry))) ⌝ }
-        ensures block { λ _. ⌜ now (out .exit) ≡ spec.snareInto self noise (now (out .entry)) ⌝ }
+        ensures block { λ _. ⌜ now (out .exit) ≡ spec.into (self .playing) (spec.snareCall self noise (length (now (out .entry)))) (now (out .entry)) ⌝ }
     {
         let playing = self.playing;
         if !playing.struck {
@@ -246,7 +246,7 @@ impl SyntheticSnarePart {
     ) -> SyntheticSnarePlayed
         requires { ⌜ length (now scratch) ≡ length (now out) ⌝ }
         ensures played { λ r. ⌜ r ≡ spec.syntheticSnareAfter self noise (length (now (out .entry))) ⌝ }
-        ensures block { λ _. ⌜ now (out .exit) ≡ spec.syntheticSnareInto self noise (now (out .entry)) ⌝ }
+        ensures block { λ _. ⌜ now (out .exit) ≡ spec.into (self .playing) (spec.syntheticSnareCall self noise (length (now (out .entry)))) (now (out .entry)) ⌝ }
     {
         let playing = self.playing;
         if !playing.struck {
@@ -272,7 +272,7 @@ impl HihatPart {
     pub(crate) fn play(self, noise: u32, out: &mut [f32], scratch: &mut [f32]) -> HihatPlayed
         requires { ⌜ length (now scratch) ≡ length (now out) ⌝ }
         ensures played { λ r. ⌜ r ≡ spec.hihatAfter self noise (length (now (out .entry))) ⌝ }
-        ensures block { λ _. ⌜ now (out .exit) ≡ spec.hihatInto self noise (now (out .entry)) ⌝ }
+        ensures block { λ _. ⌜ now (out .exit) ≡ spec.into (self .playing) (spec.hihatCall self noise (length (now (out .entry)))) (now (out .entry)) ⌝ }
     {
         let playing = self.playing;
         if !playing.struck {

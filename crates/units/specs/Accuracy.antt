@@ -9,7 +9,7 @@ use lib.Ieee.Exact.{HasValue}
 use Rattle.ieee754.specs.Single.{decimal}
 use Rattle.units.specs.Units.{pitchOf}
 
--- 256 * p without its fraction, for a finite p of at least 0: `fin s m e` is m * 2 ^ e in size, and 2 ^ e is up e / down e
+-- 256 * p without its fraction, for a finite p of at least 0: fin s m e is m * 2 ^ e in size, and 2 ^ e is up e / down e
 abbrev pub floor256 : Float → ℕ
 floor256 nan = 0
 floor256 (inf s) = 0

@@ -1,4 +1,4 @@
--- The two tables of the Rust, entry by entry: 6.151958251e-04 is `decimal 6151958251 13`. Definitions only.
+-- The two tables of the Rust, entry by entry: `6.151958251e-04` is decimal 6151958251 13. Definitions only.
 use mathlib.Core.List.{List, [], _∷_}
 use lib.Ieee.{Float}
 use Rattle.ieee754.specs.Single.{decimal}

@@ -10,13 +10,13 @@ use Rattle.units.specs.Tables.{«LUT_PITCH_RATIO_HIGH», «LUT_PITCH_RAT
 abbrev pub pitchOf : Float → Float
 pitchOf semitones = semitones ⊕ decimal 128 0
 
--- `LUT_PITCH_RATIO_HIGH[i] * LUT_PITCH_RATIO_LOW[j]`: `getD table k nan` is the entry at place k
+-- the product of an entry of `LUT_PITCH_RATIO_HIGH` and one of `LUT_PITCH_RATIO_LOW`: getD table k nan is the entry at place k
 abbrev pub ratioAt : ℕ → ℕ → Float
 ratioAt i j = getD «LUT_PITCH_RATIO_HIGH» i nan ⊗ getD «LUT_PITCH_RATIO_LOW» j nan
 
 -- A pitch of 256.0 or more, where the Rust panics, holds the ratio of the last entries. For one below 256.0 both places are below 256.
--- `toUnsigned 64` is `as usize`: toward zero, and 0 for a negative number and for a NaN, so that such a pitch reads the first entry of each table.
--- `ofInt binary32` is `as f32`.
+-- toUnsigned 64 is `as usize`: toward zero, and 0 for a negative number and for a NaN, so that such a pitch reads the first entry of each table.
+-- ofInt binary32 is `as f32`.
 unfoldable pub ratio : Float → Float
 ratio semitones =
     let pitch = pitchOf semitones in

@@ -4,7 +4,7 @@ use lib.Ieee.{Float, binary32, neg, lt}
 use Rattle.ieee754.specs.Single.{_⊕_, _⊖_, _⊗_, _⊘_, decimal}
 use Rattle.ieee754.specs.Root as Root
 
--- `*out += coefficient * (in_ - *out)`
+-- `*out += (coefficient) * ((in_) - *out);`
 abbrev pub onePole : Float → Float → Float → Float
 onePole out «in_» coefficient = out ⊕ coefficient ⊗ («in_» ⊖ out)
 

@@ -280,8 +280,13 @@ impl HihatPart {
         }
         let k = playing.knobs;
         mix::clear(scratch);
-        let r = self.voice
-            .render(noise, playing.trigger, VcaType::Swing, k.of_hihat(), scratch);
+        let r = self.voice.render(
+            noise,
+            playing.trigger,
+            VcaType::Swing,
+            k.of_hihat(),
+            scratch,
+        );
         mix::add_to(out, scratch);
         let voice = r.voice;
         HihatPlayed {

@@ -1,23 +1,27 @@
--- drums/hihat.rs: `Hihat`, statement by statement, with the square noise as its source. Definitions only.
+-- drums/hihat.rs: `Hihat`, statement by statement, for `NoiseType::Square`. Definitions only.
 use Prim.Native.Nat.{ℕ}
-use mathlib.Core.Bool.{Bool, true, false, cond}
-use mathlib.Core.List.{List}
+use mathlib.Core.Bool.{Bool, cond, not, _||_}
+use mathlib.Core.List.{List, []}
 use lib.ListN.{length}
-use lib.Ieee.{Float, neg}
+use lib.Ieee.{Float, neg, le, lt}
 use Rattle.ieee754.specs.Single.{_⊕_, _⊖_, _⊗_, _⊘_, decimal}
-use Rattle.ieee754.specs.Operations.{clamp}
-use Rattle.refusal.specs.Refusal.{ask, askBlock, unlessRefused, isSampleRate}
+use Rattle.ieee754.specs.Operations.{abs, clamp}
+use Rattle.block.specs.Block.{Turn, Passed, filled, pass, setting}
+use Rattle.refusal.specs.Refusal.{Noisy, noisy, Call, call, ask, isSampleRate, isBlockLength, isFrequency, isUnit}
 use Rattle.units.specs.Units.{ratio}
+use Rattle.random.specs.Random.{getFloat}
 use Rattle.parameter_interpolator.specs.ParameterInterpolator as ParameterInterpolator
-use Rattle.parameter_interpolator.specs.declared.ParameterInterpolator.{ParameterInterpolator as Interpolator}
 use Rattle.filter.specs.Svf as Svf
+use Rattle.filter.specs.declared.Svf.{Svf as Filter}
+use Rattle.filter.specs.declared.FilterMode.the-variants.{BandPass, HighPass}
 use Rattle.filter.specs.declared.FrequencyApproximation.the-variants.{Accurate}
 use Rattle.hihat.specs.declared.Hihat.{Hihat}
+use Rattle.hihat.specs.declared.Knobs.{Knobs}
+use Rattle.hihat.specs.declared.Settings.{Settings}
 use Rattle.hihat.specs.declared.VcaType.{VcaType}
-use Rattle.hihat.specs.declared.chain.Chain.{Chain}
-use Rattle.hihat.specs.declared.chain.Settings.{Settings}
+use Rattle.hihat.specs.declared.VcaType.the-variants.{Swing, Linear}
+use Rattle.hihat.specs.declared.square_noise.SquareNoise.{SquareNoise as Squares}
 use Rattle.hihat.specs.SquareNoise as SquareNoise
-use Rattle.hihat.specs.Chain.{passed, filtered}
 
 -- ---- init
 
@@ -34,129 +38,181 @@ ZERO = record {
 }
 
 unfoldable pub initialized : Hihat → Float → Hihat
-initialized v sampleRate =
+initialized self «sample_rate» =
     record {
-      «sample_rate» = sampleRate;
+      «sample_rate» = «sample_rate»;
       envelope = decimal 0 0;
       «noise_clock» = decimal 0 0;
       «noise_sample» = decimal 0 0;
       «sustain_gain» = decimal 0 0;
       «square_noise» = SquareNoise.init;
-      «noise_coloration_svf» = Svf.init (v .«noise_coloration_svf»);
-      hpf = Svf.init (v .hpf);
+      «noise_coloration_svf» = Svf.init (self .«noise_coloration_svf»);
+      hpf = Svf.init (self .hpf);
     }
+
+abbrev pub init : Hihat → Float → Call Hihat
+init self «sample_rate» = call (ask (isSampleRate «sample_rate») 1 0) (initialized self «sample_rate») [] self []
+
+-- ---- render: what stays the same over the block, and the trigger
+
+-- `sustain_gain` steps by the increment of its interpolator
+unfoldable pub settings : Hihat → VcaType → Knobs → ℕ → Settings
+settings self «vca_type» k samples =
+    -- `noisiness *= noisiness;`
+    let noisiness = k .noisiness ⊗ k .noisiness in
+    record {
+      «envelope_decay» = decimal 1 0 ⊖ decimal 3 3 ⊗ ratio (neg (k .decay) ⊗ decimal 84 0);
+      «cut_decay» = decimal 1 0 ⊖ decimal 25 4 ⊗ ratio (neg (k .decay) ⊗ decimal 36 0);
+      -- `self.square_noise.render(2.0 * f0, out);`
+      increment = SquareNoise.increments (decimal 2 0 ⊗ k .f0);
+      cutoff = clamp (decimal 150 0 ⊘ self .«sample_rate» ⊗ ratio (k .tone ⊗ decimal 72 0)) (decimal 0 0) (decimal 16000 0 ⊘ self .«sample_rate»);
+      -- `if resonance { 3.0 + 3.0 * tone } else { 1.0 },`
+      q = cond (k .resonance) (decimal 3 0 ⊕ decimal 3 0 ⊗ k .tone) (decimal 1 0);
+      noisiness = noisiness;
+      «noise_f» = clamp (k .f0 ⊗ (decimal 16 0 ⊕ decimal 16 0 ⊗ (decimal 1 0 ⊖ noisiness))) (decimal 0 0) (decimal 5 1);
+      «gain_increment» = ParameterInterpolator.new (self .«sustain_gain») (k .accent ⊗ k .decay) samples .increment;
+      sustain = k .sustain;
+      «vca_type» = «vca_type»;
+      «two_stage_envelope» = k .«two_stage_envelope»;
+    }
+
+-- the voice with other numbers, and with other parts: each statement changes its own
+abbrev pub numbers : Hihat → Float → Float → Float → Float → Hihat
+numbers self envelope «noise_clock» «noise_sample» «sustain_gain» =
+    record {
+      «sample_rate» = self .«sample_rate»;
+      envelope = envelope;
+      «noise_clock» = «noise_clock»;
+      «noise_sample» = «noise_sample»;
+      «sustain_gain» = «sustain_gain»;
+      «square_noise» = self .«square_noise»;
+      «noise_coloration_svf» = self .«noise_coloration_svf»;
+      hpf = self .hpf;
+    }
+
+abbrev pub parts : Hihat → Squares → Filter → Filter → Hihat
+parts self «square_noise» «noise_coloration_svf» hpf =
+    record {
+      «sample_rate» = self .«sample_rate»;
+      envelope = self .envelope;
+      «noise_clock» = self .«noise_clock»;
+      «noise_sample» = self .«noise_sample»;
+      «sustain_gain» = self .«sustain_gain»;
+      «square_noise» = «square_noise»;
+      «noise_coloration_svf» = «noise_coloration_svf»;
+      hpf = hpf;
+    }
+
+unfoldable pub triggered : Hihat → Knobs → Hihat
+triggered self k =
+    let envelope = (decimal 15 1 ⊕ decimal 5 1 ⊗ (decimal 1 0 ⊖ k .decay)) ⊗ (decimal 3 1 ⊕ decimal 7 1 ⊗ k .accent) in
+    numbers self envelope (self .«noise_clock») (self .«noise_sample») (self .«sustain_gain»)
+
+-- ---- the passes over the block, each by a sample: b is what stays the same
+
+unfoldable pub metallic : Settings → Noisy Hihat → Turn (Noisy Hihat)
+metallic b s =
+    let self = s .voice in
+    let square = SquareNoise.turn (b .increment) (self .«square_noise») in
+    record { sample = square .sample; next = noisy (parts self (square .next) (self .«noise_coloration_svf») (self .hpf)) (s .noise) }
+
+unfoldable pub setColoration : Settings → Hihat → Hihat
+setColoration b self =
+    parts self (self .«square_noise») (Svf.setFQ (self .«noise_coloration_svf») (b .cutoff) (b .q) Accurate) (self .hpf)
+
+unfoldable pub colored : Noisy Hihat → Float → Turn (Noisy Hihat)
+colored s out =
+    let self = s .voice in
+    let o = Svf.process (self .«noise_coloration_svf») out BandPass in
+    record { sample = o .out; next = noisy (parts self (self .«square_noise») (o .filter) (self .hpf)) (s .noise) }
+
+unfoldable pub clocked : Settings → Noisy Hihat → Float → Turn (Noisy Hihat)
+clocked b s out =
+    let self = s .voice in
+    let clock = self .«noise_clock» ⊕ b .«noise_f» in
+    -- `if self.noise_clock >= 1.0 {`
+    let ticks = le (decimal 1 0) clock in
+    let «noise_clock» = cond ticks (clock ⊖ decimal 1 0) clock in
+    let draw = getFloat (s .noise) in
+    let «noise_sample» = cond ticks (draw .value ⊖ decimal 5 1) (self .«noise_sample») in
+    let voice = numbers self (self .envelope) «noise_clock» «noise_sample» (self .«sustain_gain») in
+    record { sample = out ⊕ b .noisiness ⊗ («noise_sample» ⊖ out); next = noisy voice (cond ticks (draw .word) (s .noise)) }
+
+-- `if self.envelope > 0.5 || !two_stage_envelope {`
+unfoldable pub decay : Settings → Float → Float
+decay b envelope = cond (lt (decimal 5 1) envelope || not (b .«two_stage_envelope»)) (b .«envelope_decay») (b .«cut_decay»)
+
+-- `s *= if s > 0.0 { 4.0 } else { 0.1 };`
+unfoldable pub drive : Float → Float
+drive s = s ⊗ cond (lt (decimal 0 0) s) (decimal 4 0) (decimal 1 1)
+
+unfoldable pub swingVca : Float → Float → Float
+swingVca x gain =
+    let s = drive x in
+    (s ⊘ (decimal 1 0 ⊕ abs s) ⊕ decimal 1 1) ⊗ gain
+
+abbrev pub linearVca : Float → Float → Float
+linearVca s gain = s ⊗ gain
+
+unfoldable pub amplify : VcaType → Float → Float → Float
+amplify Swing s gain = swingVca s gain
+amplify Linear s gain = linearVca s gain
+
+-- `sustain_gain.next()` in a sustained block only; what it returns is the value that the interpolator's `Drop` stores
+unfoldable pub vca : Settings → Noisy Hihat → Float → Turn (Noisy Hihat)
+vca b s out =
+    let self = s .voice in
+    let envelope = self .envelope ⊗ decay b (self .envelope) in
+    let next = ParameterInterpolator.next (record { value = self .«sustain_gain»; increment = b .«gain_increment» }) in
+    let «sustain_gain» = cond (b .sustain) (next .value) (self .«sustain_gain») in
+    let gain = cond (b .sustain) «sustain_gain» envelope in
+    let voice = numbers self envelope (self .«noise_clock») (self .«noise_sample») «sustain_gain» in
+    record { sample = amplify (b .«vca_type») out gain; next = noisy voice (s .noise) }
+
+unfoldable pub setHpf : Settings → Hihat → Hihat
+setHpf b self = parts self (self .«square_noise») (self .«noise_coloration_svf») (Svf.setFQ (self .hpf) (b .cutoff) (decimal 5 1) Accurate)
+
+unfoldable pub highPassed : Noisy Hihat → Float → Turn (Noisy Hihat)
+highPassed s out =
+    let self = s .voice in
+    let o = Svf.process (self .hpf) out HighPass in
+    record { sample = o .out; next = noisy (parts self (self .«square_noise») (self .«noise_coloration_svf») (o .filter)) (s .noise) }
+
+-- a statement that changes the voice alone
+abbrev pub voiced : (Hihat → Hihat) → Noisy Hihat → Noisy Hihat
+voiced set s = noisy (set (s .voice)) (s .noise)
+
+unfoldable pub passes : Settings → Passed (Noisy Hihat) → Passed (Noisy Hihat)
+passes b p =
+    -- Render the metallic noise.
+    let p₁ = filled (metallic b) p in
+    -- Apply BPF on the metallic noise.
+    let p₂ = pass colored (setting (voiced (setColoration b)) p₁) in
+    -- This is not at all part of the 808 circuit! But to add more variety, we add a variable amount of clocked noise to the output of the
+    -- 6 schmitt trigger oscillators.
+    let p₃ = pass (clocked b) p₂ in
+    -- Apply VCA.
+    let p₄ = pass (vca b) p₃ in
+    pass highPassed (setting (voiced (setHpf b)) p₄)
+
+-- ---- render: the call
 
 -- the number of the first question that is not passed; 0 where all are
-abbrev pub initRefusal : Float → ℕ
-initRefusal sampleRate = ask (isSampleRate sampleRate) 1 0
+unfoldable pub renderRefusal : Float → Knobs → ℕ → ℕ
+renderRefusal «sample_rate» k samples =
+    ask (isSampleRate «sample_rate») 1
+    (ask (isBlockLength samples) 2
+    (ask (isFrequency (k .f0)) 3
+    (ask (isUnit (k .accent)) 4
+    (ask (isUnit (k .tone)) 5
+    (ask (isUnit (k .decay)) 5
+    (ask (isUnit (k .noisiness)) 5
+    0))))))
 
-abbrev pub init : Hihat → Float → Hihat
-init v sampleRate = unlessRefused (initRefusal sampleRate) (initialized v sampleRate) v
-
--- ---- the lines of `render` outside its passes
-
--- `noisiness *= noisiness`; the metallic noise is rendered at 2.0 * f0
-unfoldable pub settings : Float → Float → Float → Bool → VcaType → Bool → Settings
-settings f0 decay noisiness sustain vcaType twoStageEnvelope =
-    let squared = noisiness ⊗ noisiness in
-    record {
-      increment = SquareNoise.increments (decimal 2 0 ⊗ f0);
-      noisiness = squared;
-      «noise_f» = clamp (f0 ⊗ (decimal 16 0 ⊕ decimal 16 0 ⊗ (decimal 1 0 ⊖ squared))) (decimal 0 0) (decimal 5 1);
-      «envelope_decay» = decimal 1 0 ⊖ decimal 3 3 ⊗ ratio (neg decay ⊗ decimal 84 0);
-      «cut_decay» = decimal 1 0 ⊖ decimal 25 4 ⊗ ratio (neg decay ⊗ decimal 36 0);
-      sustain = sustain;
-      «vca_type» = vcaType;
-      «two_stage_envelope» = twoStageEnvelope;
-    }
-
-unfoldable pub triggered : Hihat → Bool → Float → Float → Hihat
-triggered v false accent decay = v
-triggered v true accent decay =
-    record {
-      «sample_rate» = v .«sample_rate»;
-      envelope = (decimal 15 1 ⊕ decimal 5 1 ⊗ (decimal 1 0 ⊖ decay)) ⊗ (decimal 3 1 ⊕ decimal 7 1 ⊗ accent);
-      «noise_clock» = v .«noise_clock»;
-      «noise_sample» = v .«noise_sample»;
-      «sustain_gain» = v .«sustain_gain»;
-      «square_noise» = v .«square_noise»;
-      «noise_coloration_svf» = v .«noise_coloration_svf»;
-      hpf = v .hpf;
-    }
-
-abbrev pub colorationQ : Float → Bool → Float
-colorationQ tone resonance = cond resonance (decimal 3 0 ⊕ decimal 3 0 ⊗ tone) (decimal 1 0)
-
--- both filters at the cutoff; the Rust sets `hpf` only before its last pass, and nothing touches it until then
-unfoldable pub tuned : Hihat → Float → Bool → Hihat
-tuned v tone resonance =
-    let cutoff = clamp (decimal 150 0 ⊘ v .«sample_rate» ⊗ ratio (tone ⊗ decimal 72 0)) (decimal 0 0) (decimal 16000 0 ⊘ v .«sample_rate») in
-    record {
-      «sample_rate» = v .«sample_rate»;
-      envelope = v .envelope;
-      «noise_clock» = v .«noise_clock»;
-      «noise_sample» = v .«noise_sample»;
-      «sustain_gain» = v .«sustain_gain»;
-      «square_noise» = v .«square_noise»;
-      «noise_coloration_svf» = Svf.setFQ (v .«noise_coloration_svf») cutoff (colorationQ tone resonance) Accurate;
-      hpf = Svf.setFQ (v .hpf) cutoff (decimal 5 1) Accurate;
-    }
-
--- the states of the passes, from the voice and back; the interpolator's value is stored as the Rust's `Drop` does
-abbrev pub chain : Hihat → ℕ → Interpolator → Chain
-chain v noise sustainGain = record {
-  «square_noise» = v .«square_noise»;
-  «noise_coloration_svf» = v .«noise_coloration_svf»;
-  clock = record { «noise_clock» = v .«noise_clock»; «noise_sample» = v .«noise_sample»; noise = noise };
-  vca = record { envelope = v .envelope; «sustain_gain» = sustainGain };
-  hpf = v .hpf;
-}
-
--- what the passes of an accepted call start in
-abbrev pub begun : Hihat → ℕ → Bool → Float → Float → Float → Bool → ℕ → Chain
-begun v noise trigger accent tone decay resonance size =
-    chain (tuned (triggered v trigger accent decay) tone resonance) noise (ParameterInterpolator.new (v .«sustain_gain») (accent ⊗ decay) size)
-
-abbrev pub ended : Hihat → Chain → Hihat
-ended v c = record {
-  «sample_rate» = v .«sample_rate»;
-  envelope = c .vca .envelope;
-  «noise_clock» = c .clock .«noise_clock»;
-  «noise_sample» = c .clock .«noise_sample»;
-  «sustain_gain» = c .vca .«sustain_gain» .value;
-  «square_noise» = c .«square_noise»;
-  «noise_coloration_svf» = c .«noise_coloration_svf»;
-  hpf = c .hpf;
-}
-
--- ---- render
-
--- the number of the first question that is not passed; 0 where all are
-unfoldable pub renderRefusal : Float → ℕ → Float → Float → Float → Float → Float → ℕ
-renderRefusal sampleRate size accent f0 tone decay noisiness =
-    ask (isSampleRate sampleRate) 1
-    (askBlock size f0 accent tone decay noisiness 0)
-
-module _ (v : Hihat) (noise : ℕ) (sustain trigger : Bool) (accent f0 tone decay noisiness : Float) where
-  -- the states that the passes of an accepted call leave
-  abbrev pub end : ℕ → VcaType → Bool → Bool → Chain
-  end size vcaType resonance twoStageEnvelope =
-      passed (settings f0 decay noisiness sustain vcaType twoStageEnvelope) size (begun v noise trigger accent tone decay resonance size)
-
-  -- the voice after the call
-  abbrev pub render : ℕ → VcaType → Bool → Bool → Hihat
-  render size vcaType resonance twoStageEnvelope =
-      unlessRefused (renderRefusal (v .«sample_rate») size accent f0 tone decay noisiness) (ended v (end size vcaType resonance twoStageEnvelope)) v
-
-  -- the noise state after the call
-  abbrev pub renderNoise : ℕ → VcaType → Bool → Bool → ℕ
-  renderNoise size vcaType resonance twoStageEnvelope =
-      unlessRefused (renderRefusal (v .«sample_rate») size accent f0 tone decay noisiness) (end size vcaType resonance twoStageEnvelope .clock .noise) noise
-
-  -- what `out` holds after the call
-  abbrev pub renderOut : List Float → VcaType → Bool → Bool → List Float
-  renderOut out vcaType resonance twoStageEnvelope =
-      unlessRefused (renderRefusal (v .«sample_rate») (length out) accent f0 tone decay noisiness)
-      (filtered (settings f0 decay noisiness sustain vcaType twoStageEnvelope) (length out)
-      (begun v noise trigger accent tone decay resonance (length out)))
-      out
+abbrev pub render : Noisy Hihat → Bool → VcaType → Knobs → List Float → Call (Noisy Hihat)
+render s trigger «vca_type» k out =
+    let self = s .voice in
+    let b = settings self «vca_type» k (length out) in
+    let begun = noisy (cond trigger (triggered self k) self) (s .noise) in
+    let p = passes b (record { state = begun; out = out }) in
+    call (renderRefusal (self .«sample_rate») k (length out)) (p .state) (p .out) s out

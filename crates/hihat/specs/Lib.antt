@@ -1,4 +1,4 @@
 -- The definitions of `hihat`.
 pub mod SquareNoise
-pub mod Chain
 pub mod Hihat
+pub mod OnePass

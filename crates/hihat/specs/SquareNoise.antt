@@ -32,13 +32,14 @@ increments f0 = six (λ k. increment f0 (getD ratios k nan))
 unfoldable pub advanced : List ℕ → List ℕ → List ℕ
 advanced phase increment = six (λ k. (getD phase k 0 + getD increment k 0) % 2 ^ 32)
 
--- `phase[k] >> 31`
+-- `noise += phase[0] >> 31;`, and so on
 abbrev pub high : List ℕ → ℕ → ℕ
 high phase k = getD phase k 0 / 2 ^ 31
 
 abbrev pub countHigh : List ℕ → ℕ
 countHigh phase = high phase 0 + high phase 1 + high phase 2 + high phase 3 + high phase 4 + high phase 5
 
+-- `*sample_out = 0.33 * ((noise) as f32 - 1.0);`
 unfoldable pub level : List ℕ → Float
 level phase = decimal 33 2 ⊗ (ofInt binary32 (pos (countHigh phase)) ⊖ decimal 1 0)
 

@@ -1,22 +1,24 @@
-// drums/hihat.rs: 808 hi-hat model, with the square noise as its source.
-mod chain; // chain.rt: the passes over a block, in one
+// drums/hihat.rs: 808 hi-hat model, with the square noise as its source. The Rust makes five passes over the block; here each sample goes through
+// all five in turn. That both leave the same block and the same voice is a theorem (proofs/OnePass.antt), and the contract cites the passes.
 mod square_noise; // square_noise.rt: the metallic noise
+mod turn; // turn.rt: one sample through the passes
 
 pub use square_noise::SquareNoise;
 ghost use mathlib.Core.Path.{_≡_};
+ghost use mathlib.Core.Bool.{cond};
 ghost use Prim.Native.Nat.{_≤_};
-ghost use lib.ListN.{length};
-ghost use Rattle.refusal.specs.Refusal.{answerNumber};
+ghost use lib.Ieee.{Float};
+ghost use Rattle.refusal.specs.Refusal.{answerNumber, noisy};
+ghost use Rattle.refusal.specs.declared.Answer.the-variants.{Accepted};
+ghost use Rattle.block.specs.Block.{scan, scanned};
+ghost use Rattle.ieee754.specs.Single.{_⊕_, _⊗_, decimal};
 ghost use Rattle.hihat.specs.Hihat as spec;
-use chain::Chain;
-use chain::ClockedNoise;
-use chain::Settings;
-use chain::Vca;
+ghost use Rattle.hihat.specs.OnePass.{tuned, step, turned};
 use filter::FrequencyApproximation;
 use filter::Svf;
 use parameter_interpolator::ParameterInterpolator;
 use refusal::Answer;
-use refusal::Refusal;
+use turn::Turn;
 
 pub enum VcaType {
     Swing,
@@ -35,6 +37,19 @@ pub struct Hihat {
     pub hpf: Svf,
 }
 
+// The parameters of `render`, but for the trigger and the kind of the VCA.
+#[repr(C)]
+pub struct Knobs {
+    pub sustain: bool,
+    pub accent: f32,
+    pub f0: f32,
+    pub tone: f32,
+    pub decay: f32,
+    pub noisiness: f32,
+    pub resonance: bool,
+    pub two_stage_envelope: bool,
+}
+
 // What `init` answers, and the voice after it.
 pub struct Answered {
     pub answer: Answer,
@@ -46,6 +61,21 @@ pub struct Rendered {
     pub answer: Answer,
     pub voice: Hihat,
     pub noise: u32,
+}
+
+// What stays the same over a block.
+struct Settings {
+    envelope_decay: f32,
+    cut_decay: f32,
+    increment: [u32; 6],
+    cutoff: f32,
+    q: f32,
+    noisiness: f32,
+    noise_f: f32,
+    gain_increment: f32,
+    sustain: bool,
+    vca_type: VcaType,
+    two_stage_envelope: bool,
 }
 
 impl Hihat {
@@ -62,19 +92,19 @@ impl Hihat {
     };
 
     pub fn init(self, sample_rate: f32) -> Answered
-        ensures answer { λ r. ⌜ answerNumber (r .answer) ≡ spec.initRefusal «sample_rate» ⌝ }
-        ensures voice { λ r. ⌜ r .voice ≡ spec.init self «sample_rate» ⌝ }
+        ensures number { λ r. ⌜ answerNumber (r .answer) ≡ spec.init self «sample_rate» .number ⌝ }
+        ensures voice { λ r. ⌜ r .voice ≡ spec.init self «sample_rate» .state ⌝ }
     {
-        if refusal::is_sample_rate(sample_rate) {
-            let voice = self.initialized(sample_rate);
-            return Answered {
-                answer: Answer::Accepted,
-                voice,
-            };
-        }
-        Answered {
-            answer: Answer::Refused(Refusal::SampleRate),
-            voice: self,
+        let answer = refusal::ask_sample_rate(sample_rate, Answer::Accepted);
+        match answer {
+            Answer::Refused(_) => Answered {
+                answer,
+                voice: self,
+            },
+            Answer::Accepted => {
+                let voice = self.initialized(sample_rate);
+                Answered { answer, voice }
+            }
         }
     }
 
@@ -96,32 +126,17 @@ impl Hihat {
     pub fn render(
         self,
         noise: u32,
-        sustain: bool,
         trigger: bool,
-        accent: f32,
-        f0: f32,
-        tone: f32,
-        decay: f32,
-        noisiness: f32,
-        out: &mut [f32],
         vca_type: VcaType,
-        resonance: bool,
-        two_stage_envelope: bool,
+        knobs: Knobs,
+        out: &mut [f32],
     ) -> Rendered
-        ensures answer { λ r. ⌜ answerNumber (r .answer) ≡ spec.renderRefusal (self .«sample_rate») (length (now (out .entry))) accent f0 tone decay noisiness ⌝ }
-        ensures voice { λ r. ⌜ r .voice ≡ spec.render self noise sustain trigger accent f0 tone decay noisiness (length (now (out .entry))) «vca_type» resonance «two_stage_envelope» ⌝ }
-        ensures noise { λ r. ⌜ r .noise ≡ spec.renderNoise self noise sustain trigger accent f0 tone decay noisiness (length (now (out .entry))) «vca_type» resonance «two_stage_envelope» ⌝ }
-        ensures block { λ _. ⌜ now (out .exit) ≡ spec.renderOut self noise sustain trigger accent f0 tone decay noisiness (now (out .entry)) «vca_type» resonance «two_stage_envelope» ⌝ }
+        ensures number { λ r. ⌜ answerNumber (r .answer) ≡ spec.render (noisy self noise) trigger «vca_type» knobs (now (out .entry)) .number ⌝ }
+        ensures voice { λ r. ⌜ r .voice ≡ spec.render (noisy self noise) trigger «vca_type» knobs (now (out .entry)) .state .voice ⌝ }
+        ensures noise { λ r. ⌜ r .noise ≡ spec.render (noisy self noise) trigger «vca_type» knobs (now (out .entry)) .state .noise ⌝ }
+        ensures out { λ _. ⌜ now (out .exit) ≡ spec.render (noisy self noise) trigger «vca_type» knobs (now (out .entry)) .out ⌝ }
     {
-        let answer = asked(
-            self.sample_rate,
-            out.len(),
-            accent,
-            f0,
-            tone,
-            decay,
-            noisiness,
-        );
+        let answer = knobs.asked(self.sample_rate, out.len());
         match answer {
             Answer::Refused(_) => Rendered {
                 answer,
@@ -129,32 +144,20 @@ impl Hihat {
                 noise,
             },
             Answer::Accepted => {
-                let settings = block_settings(
-                    f0,
-                    decay,
-                    noisiness,
-                    sustain,
-                    vca_type,
-                    two_stage_envelope,
-                );
-                let start = self.begun(noise, trigger, accent, tone, decay, resonance, out.len());
-                let end = start.run(settings, out);
-                let voice = self.ended(end);
-                Rendered {
-                    answer,
-                    voice,
-                    noise: end.clock.noise,
-                }
+                let settings = knobs.settings(self, vca_type, out.len());
+                self.triggered(trigger, knobs)
+                    .tuned(settings)
+                    .run(noise, settings, out)
             }
         }
     }
 
-    fn triggered(self, trigger: bool, accent: f32, decay: f32) -> Self
-        ensures { λ r. ⌜ r ≡ spec.triggered self trigger accent decay ⌝ }
+    fn triggered(self, trigger: bool, knobs: Knobs) -> Self
+        ensures { λ r. ⌜ r ≡ cond trigger (spec.triggered self knobs) self ⌝ }
     {
         if trigger {
             Hihat {
-                envelope: (1.5 + 0.5 * (1.0 - decay)) * (0.3 + 0.7 * accent),
+                envelope: (1.5 + 0.5 * (1.0 - knobs.decay)) * (0.3 + 0.7 * knobs.accent),
                 ..self
             }
         } else {
@@ -162,21 +165,17 @@ impl Hihat {
         }
     }
 
-    // Both filters at the cutoff of a tone.
-    fn tuned(self, tone: f32, resonance: bool) -> Self
-        ensures { λ r. ⌜ r ≡ spec.tuned self tone resonance ⌝ }
+    // Both filters at the cutoff.
+    fn tuned(self, settings: Settings) -> Self
+        ensures { λ r. ⌜ r ≡ tuned settings self ⌝ }
     {
-        let ratio = units::semitones_to_ratio(tone * 72.0);
-        let cutoff = ieee754::clamp(
-            150.0 / self.sample_rate * ratio,
-            0.0,
-            16000.0 / self.sample_rate,
+        let noise_coloration_svf = self.noise_coloration_svf.set_f_q(
+            settings.cutoff,
+            settings.q,
+            FrequencyApproximation::Accurate,
         );
-        let q = coloration_q(tone, resonance);
-        let noise_coloration_svf = self.noise_coloration_svf
-            .set_f_q(cutoff, q, FrequencyApproximation::Accurate);
         let hpf = self.hpf
-            .set_f_q(cutoff, 0.5, FrequencyApproximation::Accurate);
+            .set_f_q(settings.cutoff, 0.5, FrequencyApproximation::Accurate);
         Hihat {
             noise_coloration_svf,
             hpf,
@@ -184,123 +183,109 @@ impl Hihat {
         }
     }
 
-    // What the passes over a block start in.
-    fn begun(
-        self,
-        noise: u32,
-        trigger: bool,
-        accent: f32,
-        tone: f32,
-        decay: f32,
-        resonance: bool,
-        size: usize,
-    ) -> Chain
-        requires { ⌜ size ≤ 16384 ⌝ }
-        ensures { λ r. ⌜ r ≡ spec.begun self noise trigger accent tone decay resonance size ⌝ }
+    // The loop over the block of an accepted call.
+    fn run(self, noise: u32, settings: Settings, out: &mut [f32]) -> Rendered
+        ensures answer { λ r. ⌜ r .answer ≡ Accepted ⌝ }
+        ensures state { λ r. ⌜ noisy (r .voice) (r .noise) ≡ scanned (step settings) (noisy self noise) (now (out .entry)) ⌝ }
+        ensures out { λ _. ⌜ now (out .exit) ≡ scan (step settings) (noisy self noise) (now (out .entry)) ⌝ }
     {
-        let gain = ParameterInterpolator::new(self.sustain_gain, accent * decay, size as u32);
-        self.triggered(trigger, accent, decay)
-            .tuned(tone, resonance)
-            .chain(noise, gain)
-    }
-
-    // The states of the passes, from the voice.
-    fn chain(self, noise: u32, sustain_gain: ParameterInterpolator) -> Chain
-        ensures { λ r. ⌜ r ≡ spec.chain self noise «sustain_gain» ⌝ }
-    {
-        let square_noise = self.square_noise;
-        let noise_coloration_svf = self.noise_coloration_svf;
-        let hpf = self.hpf;
-        Chain {
-            square_noise,
-            noise_coloration_svf,
-            clock: ClockedNoise {
-                noise_clock: self.noise_clock,
-                noise_sample: self.noise_sample,
-                noise,
-            },
-            vca: Vca {
-                envelope: self.envelope,
-                sustain_gain,
-            },
-            hpf,
+        let mut voice = self;
+        let mut word = noise;
+        let mut i = 0;
+        while i < out.len() {
+            let t = voice.step(word, settings);
+            voice = t.voice;
+            word = t.noise;
+            out[i] = t.sample;
+            i += 1;
+        }
+        Rendered {
+            answer: Answer::Accepted,
+            voice,
+            noise: word,
         }
     }
 
-    // The voice after the passes.
-    fn ended(self, end: Chain) -> Self
-        ensures { λ r. ⌜ r ≡ spec.ended self end ⌝ }
+    // One sample, through all the passes.
+    fn step(self, noise: u32, settings: Settings) -> Turn
+        ensures { λ r. ⌜ ((x : Float) → turned r ≡ step settings (noisy self noise) x) ⌝ }
     {
-        let square_noise = end.square_noise;
-        let noise_coloration_svf = end.noise_coloration_svf;
-        let hpf = end.hpf;
-        Hihat {
-            sample_rate: self.sample_rate,
-            envelope: end.vca.envelope,
-            noise_clock: end.clock.noise_clock,
-            noise_sample: end.clock.noise_sample,
-            sustain_gain: end.vca.sustain_gain.value,
-            square_noise,
-            noise_coloration_svf,
-            hpf,
+        self.metallic(noise, settings)
+            .colored()
+            .clocked(settings)
+            .amplified(settings)
+            .high_passed()
+    }
+
+    // Render the metallic noise.
+    fn metallic(self, noise: u32, settings: Settings) -> Turn
+        ensures { λ r. ⌜ turned r ≡ spec.metallic settings (noisy self noise) ⌝ }
+    {
+        let increment = settings.increment;
+        let square_noise = self.square_noise.advanced(increment);
+        Turn {
+            voice: Hihat {
+                square_noise,
+                ..self
+            },
+            noise,
+            sample: square_noise.level(),
         }
     }
 }
 
-fn coloration_q(tone: f32, resonance: bool) -> f32
-    ensures { λ r. ⌜ r ≡ spec.colorationQ tone resonance ⌝ }
-{
-    if resonance { 3.0 + 3.0 * tone } else { 1.0 }
-}
-
-// The lines before the passes, but for the filters.
-fn block_settings(
-    f0: f32,
-    decay: f32,
-    noisiness: f32,
-    sustain: bool,
-    vca_type: VcaType,
-    two_stage_envelope: bool,
-) -> Settings
-    ensures { λ r. ⌜ r ≡ spec.settings f0 decay noisiness sustain «vca_type» «two_stage_envelope» ⌝ }
-{
-    let squared = noisiness * noisiness;
-    Settings {
-        increment: square_noise::increments(2.0 * f0),
-        noisiness: squared,
-        noise_f: ieee754::clamp(f0 * (16.0 + 16.0 * (1.0 - squared)), 0.0, 0.5),
-        envelope_decay: 1.0 - 0.003 * units::semitones_to_ratio(-decay * 84.0),
-        cut_decay: 1.0 - 0.0025 * units::semitones_to_ratio(-decay * 36.0),
-        sustain,
-        vca_type,
-        two_stage_envelope,
+impl Knobs {
+    // The questions of `render`, the last one first.
+    fn asked(self, sample_rate: f32, samples: usize) -> Answer
+        ensures { λ r. ⌜ answerNumber r ≡ spec.renderRefusal «sample_rate» self samples ⌝ }
+    {
+        let noisiness = refusal::ask_knob(self.noisiness, Answer::Accepted);
+        let decay = refusal::ask_knob(self.decay, noisiness);
+        let tone = refusal::ask_knob(self.tone, decay);
+        let accent = refusal::ask_accent(self.accent, tone);
+        let f0 = refusal::ask_frequency(self.f0, accent);
+        let length = refusal::ask_block_length(samples, f0);
+        refusal::ask_sample_rate(sample_rate, length)
     }
-}
 
-// The questions of `render`, in the order of their numbers.
-fn asked(
-    sample_rate: f32,
-    samples: usize,
-    accent: f32,
-    f0: f32,
-    tone: f32,
-    decay: f32,
-    noisiness: f32,
-) -> Answer
-    ensures { λ r. ⌜ answerNumber r ≡ spec.renderRefusal «sample_rate» samples accent f0 tone decay noisiness ⌝ }
-{
-    let block = refusal::ask_block(
-        samples,
-        f0,
-        accent,
-        tone,
-        decay,
-        noisiness,
-        Answer::Accepted,
-    );
-    refusal::ask(
-        refusal::is_sample_rate(sample_rate),
-        Refusal::SampleRate,
-        block,
-    )
+    // The lines of `render` outside its passes.
+    fn settings(self, voice: Hihat, vca_type: VcaType, samples: usize) -> Settings
+        requires { ⌜ samples ≤ 16384 ⌝ }
+        ensures { λ r. ⌜ r ≡ spec.settings voice «vca_type» self samples ⌝ }
+    {
+        let noisiness = self.noisiness * self.noisiness;
+        let gain = ParameterInterpolator::new(
+            voice.sustain_gain,
+            self.accent * self.decay,
+            samples as u32,
+        );
+        Settings {
+            envelope_decay: 1.0 - 0.003 * units::semitones_to_ratio(-self.decay * 84.0),
+            cut_decay: 1.0 - 0.0025 * units::semitones_to_ratio(-self.decay * 36.0),
+            increment: square_noise::increments(2.0 * self.f0),
+            cutoff: ieee754::clamp(
+                150.0 / voice.sample_rate * units::semitones_to_ratio(self.tone * 72.0),
+                0.0,
+                16000.0 / voice.sample_rate,
+            ),
+            q: self.q(),
+            noisiness,
+            noise_f: ieee754::clamp(self.f0 * (16.0 + 16.0 * (1.0 - noisiness)), 0.0, 0.5),
+            gain_increment: gain.increment,
+            sustain: self.sustain,
+            vca_type,
+            two_stage_envelope: self.two_stage_envelope,
+        }
+    }
+
+    // The resonance of the coloration filter.
+    fn q(self) -> f32
+        ensures { λ r. ⌜ r ≡ cond (self .resonance) (decimal 3 0 ⊕ decimal 3 0 ⊗ self .tone) (decimal 1 0) ⌝ }
+    {
+        if self.resonance {
+            3.0 + 3.0 * self.tone
+        } else {
+            1.0
+        }
+    }
 }

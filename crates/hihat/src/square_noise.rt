@@ -13,12 +13,6 @@ pub struct SquareNoise {
     pub phase: [u32; 6],
 }
 
-// The noise after a sample, and the sample.
-pub struct SquareSample {
-    pub noise: SquareNoise,
-    pub sample: f32,
-}
-
 impl SquareNoise {
     // Every field zero, for `init` to overwrite.
     pub const ZERO: SquareNoise = SquareNoise { phase: [0; 6] };
@@ -38,24 +32,42 @@ impl SquareNoise {
         let mut noise = self;
         let mut i = 0;
         while i < out.len() {
-            let s = noise.step(increment);
-            noise = s.noise;
-            out[i] = s.sample;
+            noise = noise.advanced(increment);
+            out[i] = noise.level();
             i += 1;
         }
         noise
     }
 
-    // One turn of the loop: the phases step first.
-    pub(crate) fn step(self, increment: [u32; 6]) -> SquareSample
-        ensures { λ r. ⌜ (r .noise ≡ spec.turn increment self .next) × (r .sample ≡ spec.turn increment self .sample) ⌝ }
+    pub(crate) fn advanced(self, increment: [u32; 6]) -> Self
+        ensures { λ r. ⌜ r ≡ spec.turn increment self .next ⌝ }
     {
-        let old = self.phase;
-        let phase = advanced(old, increment);
-        let sample = level(phase);
-        SquareSample {
-            noise: SquareNoise { phase },
-            sample,
+        let phase = self.phase;
+        let a = std::num::wrapping_add_u32(phase[0], increment[0]);
+        let b = std::num::wrapping_add_u32(phase[1], increment[1]);
+        let c = std::num::wrapping_add_u32(phase[2], increment[2]);
+        let d = std::num::wrapping_add_u32(phase[3], increment[3]);
+        let e = std::num::wrapping_add_u32(phase[4], increment[4]);
+        let f = std::num::wrapping_add_u32(phase[5], increment[5]);
+        SquareNoise {
+            phase: [a, b, c, d, e, f],
+        }
+    }
+
+    // The sample, by how many phases have bit 31 set.
+    pub(crate) fn level(self) -> f32
+        ensures { λ r. ⌜ r ≡ spec.level (self .phase) ⌝ }
+    {
+        let phase = self.phase;
+        let noise = count_high(phase);
+        match noise {
+            0 => 0.33 * (0.0 - 1.0),
+            1 => 0.33 * (1.0 - 1.0),
+            2 => 0.33 * (2.0 - 1.0),
+            3 => 0.33 * (3.0 - 1.0),
+            4 => 0.33 * (4.0 - 1.0),
+            5 => 0.33 * (5.0 - 1.0),
+            _ => 0.33 * (6.0 - 1.0),
         }
     }
 }
@@ -82,18 +94,6 @@ fn increment_at(f0: f32, ratio: f32) -> u32
     ieee754::truncate_u32(f * 4294967296.0)
 }
 
-fn advanced(phase: [u32; 6], increment: [u32; 6]) -> [u32; 6]
-    ensures { λ r. ⌜ r ≡ spec.advanced phase increment ⌝ }
-{
-    let a = std::num::wrapping_add_u32(phase[0], increment[0]);
-    let b = std::num::wrapping_add_u32(phase[1], increment[1]);
-    let c = std::num::wrapping_add_u32(phase[2], increment[2]);
-    let d = std::num::wrapping_add_u32(phase[3], increment[3]);
-    let e = std::num::wrapping_add_u32(phase[4], increment[4]);
-    let f = std::num::wrapping_add_u32(phase[5], increment[5]);
-    [a, b, c, d, e, f]
-}
-
 fn high_bit(phase: u32) -> u32
     ensures { λ r. ⌜ (r ≡ phase / 2 ^ 31) × (r < 2) ⌝ }
 {
@@ -110,11 +110,4 @@ fn count_high(phase: [u32; 6]) -> u32
         + high_bit(phase[3])
         + high_bit(phase[4])
         + high_bit(phase[5])
-}
-
-fn level(phase: [u32; 6]) -> f32
-    ensures { λ r. ⌜ r ≡ spec.level phase ⌝ }
-{
-    let noise = count_high(phase);
-    0.33 * (noise as f32 - 1.0)
 }

@@ -1,2 +1,3 @@
--- The definitions of `synthetic_snare_drum`.
+-- The definitions of synthetic_snare_drum.
 pub mod SyntheticSnareDrum
+pub mod Parts

@@ -1,283 +1,216 @@
 -- drums/synthetic_snare_drum.rs, statement by statement, sustain included. Definitions only.
-use Prim.Native.Nat.{ℕ, _-_}
-use mathlib.Core.Bool.{Bool, true, false, cond}
+use Prim.Native.Nat.{ℕ, _-_, _^_}
+use mathlib.Core.Bool.{Bool, cond, not, _||_}
 use mathlib.Core.List.{List, [], _∷_}
+use lib.Bits.{bitAnd}
 use lib.Dec.{eqb}
 use lib.ListN.{length, getD}
 use lib.Ieee.{Float, nan, neg, le, lt, toUnsigned}
 use Rattle.ieee754.specs.Single.{_⊕_, _⊖_, _⊗_, _⊘_, decimal}
 use Rattle.ieee754.specs.Operations.{abs, minimumNumber, clamp}
 use Rattle.block.specs.Block.{Turn, samples, after}
-use Rattle.refusal.specs.Refusal.{ask, askBlock, unlessRefused, isSampleRate}
+use Rattle.refusal.specs.Refusal.{Noisy, noisy, Call, call, ask, isSampleRate, isBlockLength, isFrequency, isUnit}
 use Rattle.random.specs.Random.{getFloat}
 use Rattle.units.specs.Units.{ratio}
 use Rattle.utils.specs.Utils.{sqrt}
 use Rattle.filter.specs.OnePole as OnePole
 use Rattle.filter.specs.Svf as Svf
 use Rattle.filter.specs.declared.OnePole.{OnePole}
-use Rattle.filter.specs.declared.OnePoleOutput.{OnePoleOutput}
 use Rattle.filter.specs.declared.Svf.{Svf}
 use Rattle.filter.specs.declared.FilterMode.the-variants.{LowPass, HighPass}
 use Rattle.filter.specs.declared.FrequencyApproximation.the-variants.{Fast}
 use Rattle.parameter_interpolator.specs.ParameterInterpolator as ParameterInterpolator
 use Rattle.synthetic_snare_drum.specs.declared.SyntheticSnareDrum.{SyntheticSnareDrum}
+use Rattle.synthetic_snare_drum.specs.declared.Knobs.{Knobs}
 use Rattle.synthetic_snare_drum.specs.declared.Settings.{Settings}
-use Rattle.synthetic_snare_drum.specs.declared.Sounding.{Sounding}
-use Rattle.synthetic_snare_drum.specs.declared.Sounded.{Sounded}
-use Rattle.synthetic_snare_drum.specs.declared.Envelopes.{Envelopes}
-use Rattle.synthetic_snare_drum.specs.declared.SnareOutput.{SnareOutput}
 
 -- ---- init
 
-unfoldable pub ZERO : SyntheticSnareDrum
-ZERO = record {
-  «sample_rate_hz» = decimal 0 0;
-  phase = decimal 0 0 ∷ decimal 0 0 ∷ [];
-  «drum_amplitude» = decimal 0 0;
-  «snare_amplitude» = decimal 0 0;
-  fm = decimal 0 0;
-  «sustain_gain» = decimal 0 0;
-  «hold_counter» = 0;
-  «drum_lp» = OnePole.ZERO;
-  «snare_hp» = OnePole.ZERO;
-  «snare_lp» = Svf.ZERO;
-}
-
-unfoldable pub initialized : SyntheticSnareDrum → Float → SyntheticSnareDrum
-initialized v sampleRateHz =
+-- the voice of this rate and with these filters, every other field zero
+abbrev pub silent : Float → OnePole → OnePole → Svf → SyntheticSnareDrum
+silent «sample_rate_hz» «drum_lp» «snare_hp» «snare_lp» =
     record {
-      «sample_rate_hz» = sampleRateHz;
+      «sample_rate_hz» = «sample_rate_hz»;
       phase = decimal 0 0 ∷ decimal 0 0 ∷ [];
       «drum_amplitude» = decimal 0 0;
       «snare_amplitude» = decimal 0 0;
       fm = decimal 0 0;
       «sustain_gain» = decimal 0 0;
       «hold_counter» = 0;
-      «drum_lp» = OnePole.init (v .«drum_lp»);
-      «snare_hp» = OnePole.init (v .«snare_hp»);
-      «snare_lp» = Svf.init (v .«snare_lp»);
+      «drum_lp» = «drum_lp»;
+      «snare_hp» = «snare_hp»;
+      «snare_lp» = «snare_lp»;
     }
 
--- the number of the first question that is not passed; 0 where all are
-abbrev pub initRefusal : Float → ℕ
-initRefusal sampleRateHz = ask (isSampleRate sampleRateHz) 1 0
+unfoldable pub ZERO : SyntheticSnareDrum
+ZERO = silent (decimal 0 0) OnePole.ZERO OnePole.ZERO Svf.ZERO
 
-abbrev pub init : SyntheticSnareDrum → Float → SyntheticSnareDrum
-init v sampleRateHz = unlessRefused (initRefusal sampleRateHz) (initialized v sampleRateHz) v
+unfoldable pub initialized : SyntheticSnareDrum → Float → SyntheticSnareDrum
+initialized self «sample_rate_hz» =
+    silent «sample_rate_hz» (OnePole.init (self .«drum_lp»)) (OnePole.init (self .«snare_hp»)) (Svf.init (self .«snare_lp»))
+
+abbrev pub init : SyntheticSnareDrum → Float → Call SyntheticSnareDrum
+init self «sample_rate_hz» = call (ask (isSampleRate «sample_rate_hz») 1 0) (initialized self «sample_rate_hz») [] self []
 
 -- ---- the lines of `render` before its loop
 
--- `fm_amount *= fm_amount`: all lines after it, the loop's too, read the square. Both decays read `snappy` as it was given, and all lines after them as it is clamped.
-unfoldable pub settings : Float → Bool → Float → Float → Float → Float → Settings
-settings sampleRateHz sustain f0 fmAmount decay snappy =
-    let decayXt = decay ⊗ (decimal 1 0 ⊕ decay ⊗ (decay ⊖ decimal 1 0)) in
-    let fmSquared = fmAmount ⊗ fmAmount in
-    let drumDecay = decimal 1 0 ⊖ decimal 1 0 ⊘ (decimal 15 3 ⊗ sampleRateHz) ⊗ ratio (neg decayXt ⊗ decimal 72 0 ⊖ fmSquared ⊗ decimal 12 0 ⊕ snappy ⊗ decimal 7 0) in
-    let snareDecay = decimal 1 0 ⊖ decimal 1 0 ⊘ (decimal 1 2 ⊗ sampleRateHz) ⊗ ratio (neg decay ⊗ decimal 60 0 ⊖ snappy ⊗ decimal 7 0) in
-    let fmDecay = decimal 1 0 ⊖ decimal 1 0 ⊘ (decimal 7 3 ⊗ sampleRateHz) in
-    let clamped = clamp (snappy ⊗ decimal 11 1 ⊖ decimal 5 2) (decimal 0 0) (decimal 1 0) in
+-- what the loop reads and does not change; size is `out.len()`. The interpolator's value is the voice's own, so its increment alone is kept
+unfoldable pub settings : SyntheticSnareDrum → Knobs → ℕ → Settings
+settings self k size =
+    let rate = self .«sample_rate_hz» in
+    let decay = k .decay in
+    let snappy = k .snappy in
+    let «decay_xt» = decay ⊗ (decimal 1 0 ⊕ decay ⊗ (decay ⊖ decimal 1 0)) in
+    let «fm_amount» = k .«fm_amount» ⊗ k .«fm_amount» in
+    let «drum_pitch» = neg «decay_xt» ⊗ decimal 72 0 ⊖ «fm_amount» ⊗ decimal 12 0 ⊕ snappy ⊗ decimal 7 0 in
+    let «drum_decay» = decimal 1 0 ⊖ decimal 1 0 ⊘ (decimal 15 3 ⊗ rate) ⊗ ratio «drum_pitch» in
+    let «snare_decay» = decimal 1 0 ⊖ decimal 1 0 ⊘ (decimal 1 2 ⊗ rate) ⊗ ratio (neg decay ⊗ decimal 60 0 ⊖ snappy ⊗ decimal 7 0) in
+    let «fm_decay» = decimal 1 0 ⊖ decimal 1 0 ⊘ (decimal 7 3 ⊗ rate) in
+    let snappy = snappy ⊗ decimal 11 1 ⊖ decimal 5 2 in
+    let snappy = clamp snappy (decimal 0 0) (decimal 1 0) in
+    let «drum_level» = sqrt (decimal 1 0 ⊖ snappy) in
+    let «snare_level» = sqrt snappy in
+    let «sustain_gain» = ParameterInterpolator.new (self .«sustain_gain») (k .accent ⊗ decay) size in
     record {
-      sustain = sustain;
-      f0 = f0;
-      «fm_amount» = fmSquared;
-      «drum_decay» = drumDecay;
-      «snare_decay» = snareDecay;
-      «fm_decay» = fmDecay;
-      snappy = clamped;
-      «drum_level» = sqrt (decimal 1 0 ⊖ clamped);
-      «snare_level» = sqrt clamped;
+      sustain = k .sustain;
+      f0 = k .f0;
+      «fm_amount» = «fm_amount»;
+      «drum_decay» = «drum_decay»;
+      «snare_decay» = «snare_decay»;
+      «fm_decay» = «fm_decay»;
+      snappy = snappy;
+      «drum_level» = «drum_level»;
+      «snare_level» = «snare_level»;
+      increment = «sustain_gain» .increment;
     }
 
-unfoldable pub tuned : Settings → SyntheticSnareDrum → SyntheticSnareDrum
-tuned b v =
-    let snareFMin = minimumNumber (decimal 10 0 ⊗ b .f0) (decimal 5 1) in
-    let snareFMax = minimumNumber (decimal 35 0 ⊗ b .f0) (decimal 5 1) in
+unfoldable pub tuned : SyntheticSnareDrum → Settings → SyntheticSnareDrum
+tuned self b =
+    let «snare_f_min» = minimumNumber (decimal 10 0 ⊗ b .f0) (decimal 5 1) in
+    let «snare_f_max» = minimumNumber (decimal 35 0 ⊗ b .f0) (decimal 5 1) in
     record {
-      «sample_rate_hz» = v .«sample_rate_hz»;
-      phase = v .phase;
-      «drum_amplitude» = v .«drum_amplitude»;
-      «snare_amplitude» = v .«snare_amplitude»;
-      fm = v .fm;
-      «sustain_gain» = v .«sustain_gain»;
-      «hold_counter» = v .«hold_counter»;
-      «drum_lp» = OnePole.setF (v .«drum_lp») (decimal 3 0 ⊗ b .f0) Fast;
-      «snare_hp» = OnePole.setF (v .«snare_hp») snareFMin Fast;
-      «snare_lp» = Svf.setFQ (v .«snare_lp») snareFMax (decimal 5 1 ⊕ decimal 2 0 ⊗ b .snappy) Fast;
+      «sample_rate_hz» = self .«sample_rate_hz»;
+      phase = self .phase;
+      «drum_amplitude» = self .«drum_amplitude»;
+      «snare_amplitude» = self .«snare_amplitude»;
+      fm = self .fm;
+      «sustain_gain» = self .«sustain_gain»;
+      «hold_counter» = self .«hold_counter»;
+      «drum_lp» = OnePole.setF (self .«drum_lp») (decimal 3 0 ⊗ b .f0) Fast;
+      «snare_hp» = OnePole.setF (self .«snare_hp») «snare_f_min» Fast;
+      «snare_lp» = Svf.setFQ (self .«snare_lp») «snare_f_max» (decimal 5 1 ⊕ decimal 2 0 ⊗ b .snappy) Fast;
     }
 
-unfoldable pub triggered : SyntheticSnareDrum → Bool → Float → Float → SyntheticSnareDrum
-triggered v false accent decay = v
-triggered v true accent decay =
-    let snareAmplitude = decimal 3 1 ⊕ decimal 7 1 ⊗ accent in
+-- what stands under `if trigger {`
+unfoldable pub triggered : SyntheticSnareDrum → Float → Float → SyntheticSnareDrum
+triggered self accent decay =
+    let «snare_amplitude» = decimal 3 1 ⊕ decimal 7 1 ⊗ accent in
     record {
-      «sample_rate_hz» = v .«sample_rate_hz»;
+      «sample_rate_hz» = self .«sample_rate_hz»;
       phase = decimal 0 0 ∷ decimal 0 0 ∷ [];
-      «drum_amplitude» = snareAmplitude;
-      «snare_amplitude» = snareAmplitude;
+      «drum_amplitude» = «snare_amplitude»;
+      «snare_amplitude» = «snare_amplitude»;
       fm = decimal 1 0;
-      «sustain_gain» = v .«sustain_gain»;
-      «hold_counter» = toUnsigned 32 ((decimal 4 2 ⊕ decay ⊗ decimal 3 2) ⊗ v .«sample_rate_hz»);
-      «drum_lp» = v .«drum_lp»;
-      «snare_hp» = v .«snare_hp»;
-      «snare_lp» = v .«snare_lp»;
+      «sustain_gain» = self .«sustain_gain»;
+      «hold_counter» = toUnsigned 32 ((decimal 4 2 ⊕ decay ⊗ decimal 3 2) ⊗ self .«sample_rate_hz»);
+      «drum_lp» = self .«drum_lp»;
+      «snare_hp» = self .«snare_hp»;
+      «snare_lp» = self .«snare_lp»;
     }
-
--- the state as the loop begins
-unfoldable pub begun : Settings → SyntheticSnareDrum → ℕ → Bool → Float → Float → ℕ → Sounding
-begun b v noise trigger accent decay size =
-    let voice = triggered (tuned b v) trigger accent decay in
-    record { voice = voice; gain = ParameterInterpolator.new (voice .«sustain_gain») (accent ⊗ decay) size; noise = noise }
 
 -- ---- one turn of the loop
 
--- `if sustain { .. } else { .. }`. The Rust's `!(size & 1) != 0` is a bitwise not, which no size makes 0: the drum's factor is `drum_decay` whatever its amplitude.
-unfoldable pub envelopes : Settings → Sounding → Envelopes
-envelopes b s =
-    let v = s .voice in
-    let gain = ParameterInterpolator.next (s .gain) in
-    cond (b .sustain)
-    record {
-      «drum_amplitude» = gain .value;
-      «snare_amplitude» = gain .value;
-      fm = decimal 0 0;
-      «hold_counter» = v .«hold_counter»;
-      gain = gain;
-    }
-    record {
-      «drum_amplitude» = v .«drum_amplitude» ⊗ b .«drum_decay»;
-      «snare_amplitude» = cond (eqb (v .«hold_counter») 0) (v .«snare_amplitude» ⊗ b .«snare_decay») (v .«snare_amplitude»);
-      fm = v .fm ⊗ b .«fm_decay»;
-      «hold_counter» = cond (eqb (v .«hold_counter») 0) 0 (v .«hold_counter» - 1);
-      gain = s .gain;
-    }
+-- `self.drum_amplitude > 0.03 || !(size & 1) != 0`: the not is of the 64 bits of a usize
+unfoldable pub drumDecays : Float → ℕ → Bool
+drumDecays «drum_amplitude» size = lt (decimal 3 2) «drum_amplitude» || not (eqb (2 ^ 64 - 1 - bitAnd size 1) 0)
 
-unfoldable pub resetNoiseAmount : Settings → Float
-resetNoiseAmount b =
-    let amount = clamp ((decimal 125 3 ⊖ b .f0) ⊗ decimal 8 0) (decimal 0 0) (decimal 1 0) in
-    amount ⊗ amount ⊗ b .«fm_amount»
-
-unfoldable pub resetSign : Float → Float
-resetSign phase = cond (lt (decimal 5 1) phase) (neg (decimal 1 0)) (decimal 1 0)
-
--- a phase may leave the range from 0 to 1: the Rust takes off 1 at most once
+-- `if reset_noise_amount > 0.1 {`: what is done to each phase. The Rust takes off 1.0 at most once, so a phase may leave the range from 0.0 to 1.0
 unfoldable pub reset : Float → Float → Float → Float
-reset phase resetNoiseAmount resetNoise =
-    cond (lt (decimal 1 1) resetNoiseAmount)
-    (cond (le (decimal 1 0 ⊕ resetNoise) phase) (decimal 1 0 ⊖ phase) phase)
+reset «reset_noise_amount» «reset_noise» phase =
+    cond (lt (decimal 1 1) «reset_noise_amount»)
+    (cond (le (decimal 1 0 ⊕ «reset_noise») phase) (decimal 1 0 ⊖ phase) phase)
     (cond (le (decimal 1 0) phase) (phase ⊖ decimal 1 0) phase)
-
-unfoldable pub phases : Settings → List Float → Float → List Float
-phases b phase fm =
-    let phase₀ = getD phase 0 nan in
-    let phase₁ = getD phase 1 nan in
-    let amount = resetNoiseAmount b in
-    let resetNoise = (decimal 0 0 ⊕ resetSign phase₀ ⊕ resetSign phase₁) ⊗ (amount ⊗ decimal 25 3) in
-    let f = b .f0 ⊗ (decimal 1 0 ⊕ b .«fm_amount» ⊗ (decimal 4 0 ⊗ fm)) in
-    reset (phase₀ ⊕ f) amount resetNoise ∷ reset (phase₁ ⊕ f ⊗ decimal 147 2) amount resetNoise ∷ []
-
-unfoldable pub folded : Float → Float
-folded phase = cond (lt phase (decimal 5 1)) phase (decimal 1 0 ⊖ phase)
 
 unfoldable pub distortedSine : Float → Float
 distortedSine phase =
-    let triangle = folded phase ⊗ decimal 4 0 ⊖ decimal 13 1 in
+    let triangle = cond (lt phase (decimal 5 1)) phase (decimal 1 0 ⊖ phase) ⊗ decimal 4 0 ⊖ decimal 13 1 in
     decimal 2 0 ⊗ triangle ⊘ (decimal 1 0 ⊕ abs triangle)
 
-unfoldable pub drum : Settings → Envelopes → OnePole → List Float → OnePoleOutput
-drum b e drumLp phase =
-    let drum = neg (decimal 1 1) ⊕ distortedSine (getD phase 0 nan) ⊗ decimal 60 2 ⊕ distortedSine (getD phase 1 nan) ⊗ decimal 25 2 in
-    OnePole.process drumLp (drum ⊗ (e .«drum_amplitude» ⊗ b .«drum_level»)) LowPass
-
-unfoldable pub snare : Settings → Envelopes → OnePole → Svf → Float → SnareOutput
-snare b e snareHp snareLp noise =
-    let low = Svf.process snareLp noise LowPass in
-    let high = OnePole.process snareHp (low .out) HighPass in
-    record {
-      «snare_hp» = high .filter;
-      «snare_lp» = low .filter;
-      out = (high .out ⊕ decimal 1 1) ⊗ (e .«snare_amplitude» ⊕ e .fm) ⊗ b .«snare_level»;
-    }
-
-unfoldable pub step : Settings → Sounding → Sounded
-step b s =
-    let v = s .voice in
-    let e = envelopes b s in
-    let phase = phases b (v .phase) (e .fm) in
-    let d = drum b e (v .«drum_lp») phase in
+-- b is what stays the same over the block. What the Rust writes to a field has the field's name here
+unfoldable pub step : Settings → ℕ → Noisy SyntheticSnareDrum → Turn (Noisy SyntheticSnareDrum)
+step b size s =
+    let self = s .voice in
+    let phase₀ = getD (self .phase) 0 nan in
+    let phase₁ = getD (self .phase) 1 nan in
+    -- `self.snare_amplitude = sustain_gain.next();` steps the voice's own value: in the Rust it comes back when the interpolator is dropped
+    let sustain = b .sustain in
+    let next = ParameterInterpolator.next (record { value = self .«sustain_gain»; increment = b .increment }) .value in
+    let «sustain_gain» = cond sustain next (self .«sustain_gain») in
+    let factor = cond (drumDecays (self .«drum_amplitude») size) (b .«drum_decay») (decimal 1 0) in
+    let «drum_amplitude» = cond sustain next (self .«drum_amplitude» ⊗ factor) in
+    -- `if self.hold_counter != 0 {`, and `self.hold_counter -= 1;`, which leaves a 0 here as it is
+    let «hold_counter» = cond sustain (self .«hold_counter») (self .«hold_counter» - 1) in
+    let decayed = cond (eqb (self .«hold_counter») 0) (self .«snare_amplitude» ⊗ b .«snare_decay») (self .«snare_amplitude») in
+    let «snare_amplitude» = cond sustain next decayed in
+    let fm = cond sustain (decimal 0 0) (self .fm ⊗ b .«fm_decay») in
+    -- the oscillators' coupling
+    let «reset_noise» = decimal 0 0 in
+    let «reset_noise_amount» = (decimal 125 3 ⊖ b .f0) ⊗ decimal 8 0 in
+    let «reset_noise_amount» = clamp «reset_noise_amount» (decimal 0 0) (decimal 1 0) in
+    let «reset_noise_amount» = «reset_noise_amount» ⊗ «reset_noise_amount» in
+    let «reset_noise_amount» = «reset_noise_amount» ⊗ b .«fm_amount» in
+    let «reset_noise» = «reset_noise» ⊕ cond (lt (decimal 5 1) phase₀) (neg (decimal 1 0)) (decimal 1 0) in
+    let «reset_noise» = «reset_noise» ⊕ cond (lt (decimal 5 1) phase₁) (neg (decimal 1 0)) (decimal 1 0) in
+    let «reset_noise» = «reset_noise» ⊗ («reset_noise_amount» ⊗ decimal 25 3) in
+    let f = b .f0 ⊗ (decimal 1 0 ⊕ b .«fm_amount» ⊗ (decimal 4 0 ⊗ fm)) in
+    let phase₀ = reset «reset_noise_amount» «reset_noise» (phase₀ ⊕ f) in
+    let phase₁ = reset «reset_noise_amount» «reset_noise» (phase₁ ⊕ f ⊗ decimal 147 2) in
+    let drum = neg (decimal 1 1) in
+    let drum = drum ⊕ distortedSine phase₀ ⊗ decimal 60 2 in
+    let drum = drum ⊕ distortedSine phase₁ ⊗ decimal 25 2 in
+    let drum = drum ⊗ («drum_amplitude» ⊗ b .«drum_level») in
+    let drum = OnePole.process (self .«drum_lp») drum LowPass in
     let noise = getFloat (s .noise) in
-    let n = snare b e (v .«snare_hp») (v .«snare_lp») (noise .value) in
+    let low = Svf.process (self .«snare_lp») (noise .value) LowPass in
+    let high = OnePole.process (self .«snare_hp») (low .out) HighPass in
+    let snare = (high .out ⊕ decimal 1 1) ⊗ («snare_amplitude» ⊕ fm) ⊗ b .«snare_level» in
     record {
-      sample = n .out ⊕ d .out;
+      sample = snare ⊕ drum .out;
       next = record {
         voice = record {
-          «sample_rate_hz» = v .«sample_rate_hz»;
-          phase = phase;
-          «drum_amplitude» = e .«drum_amplitude»;
-          «snare_amplitude» = e .«snare_amplitude»;
-          fm = e .fm;
-          «sustain_gain» = v .«sustain_gain»;
-          «hold_counter» = e .«hold_counter»;
-          «drum_lp» = d .filter;
-          «snare_hp» = n .«snare_hp»;
-          «snare_lp» = n .«snare_lp»;
+          «sample_rate_hz» = self .«sample_rate_hz»;
+          phase = phase₀ ∷ phase₁ ∷ [];
+          «drum_amplitude» = «drum_amplitude»;
+          «snare_amplitude» = «snare_amplitude»;
+          fm = fm;
+          «sustain_gain» = «sustain_gain»;
+          «hold_counter» = «hold_counter»;
+          «drum_lp» = drum .filter;
+          «snare_hp» = high .filter;
+          «snare_lp» = low .filter;
         };
-        gain = e .gain;
         noise = noise .word;
       };
     }
 
-abbrev pub turn : Settings → Sounding → Turn Sounding
-turn b s = let o = step b s in record { sample = o .sample; next = o .next }
-
 -- ---- render
 
--- the interpolator's `Drop` stores its value
-unfoldable pub ended : Sounding → SyntheticSnareDrum
-ended s =
-    let v = s .voice in
-    record {
-      «sample_rate_hz» = v .«sample_rate_hz»;
-      phase = v .phase;
-      «drum_amplitude» = v .«drum_amplitude»;
-      «snare_amplitude» = v .«snare_amplitude»;
-      fm = v .fm;
-      «sustain_gain» = s .gain .value;
-      «hold_counter» = v .«hold_counter»;
-      «drum_lp» = v .«drum_lp»;
-      «snare_hp» = v .«snare_hp»;
-      «snare_lp» = v .«snare_lp»;
-    }
-
 -- the number of the first question that is not passed; 0 where all are
-unfoldable pub renderRefusal : Float → ℕ → Float → Float → Float → Float → Float → ℕ
-renderRefusal sampleRateHz size accent f0 fmAmount decay snappy =
-    ask (isSampleRate sampleRateHz) 1
-    (askBlock size f0 accent fmAmount decay snappy 0)
+unfoldable pub renderRefusal : Float → Knobs → ℕ → ℕ
+renderRefusal «sample_rate_hz» k size =
+    ask (isSampleRate «sample_rate_hz») 1
+    (ask (isBlockLength size) 2
+    (ask (isFrequency (k .f0)) 3
+    (ask (isUnit (k .accent)) 4
+    (ask (isUnit (k .«fm_amount»)) 5
+    (ask (isUnit (k .decay)) 5
+    (ask (isUnit (k .snappy)) 5
+    0))))))
 
--- the state after the loop of an accepted call
-abbrev pub played : SyntheticSnareDrum → ℕ → Bool → Bool → Float → Float → Float → Float → Float → ℕ → Sounding
-played v noise sustain trigger accent f0 fmAmount decay snappy size =
-    let b = settings (v .«sample_rate_hz») sustain f0 fmAmount decay snappy in
-    after (turn b) size (begun b v noise trigger accent decay size)
-
--- the voice after the call
-abbrev pub render : SyntheticSnareDrum → ℕ → Bool → Bool → Float → Float → Float → Float → Float → ℕ → SyntheticSnareDrum
-render v noise sustain trigger accent f0 fmAmount decay snappy size =
-    unlessRefused (renderRefusal (v .«sample_rate_hz») size accent f0 fmAmount decay snappy)
-    (ended (played v noise sustain trigger accent f0 fmAmount decay snappy size))
-    v
-
--- the noise state after the call
-abbrev pub renderNoise : SyntheticSnareDrum → ℕ → Bool → Bool → Float → Float → Float → Float → Float → ℕ → ℕ
-renderNoise v noise sustain trigger accent f0 fmAmount decay snappy size =
-    unlessRefused (renderRefusal (v .«sample_rate_hz») size accent f0 fmAmount decay snappy)
-    (played v noise sustain trigger accent f0 fmAmount decay snappy size .noise)
-    noise
-
--- what `out` holds after the call
-abbrev pub renderOut : SyntheticSnareDrum → ℕ → Bool → Bool → Float → Float → Float → Float → Float → List Float → List Float
-renderOut v noise sustain trigger accent f0 fmAmount decay snappy out =
-    let b = settings (v .«sample_rate_hz») sustain f0 fmAmount decay snappy in
-    unlessRefused (renderRefusal (v .«sample_rate_hz») (length out) accent f0 fmAmount decay snappy)
-    (samples (turn b) (length out) (begun b v noise trigger accent decay (length out)))
-    out
+abbrev pub render : Noisy SyntheticSnareDrum → Bool → Knobs → List Float → Call (Noisy SyntheticSnareDrum)
+render s trigger k out =
+    let size = length out in
+    let b = settings (s .voice) k size in
+    let voice = tuned (s .voice) b in
+    let begun = noisy (cond trigger (triggered voice (k .accent) (k .decay)) voice) (s .noise) in
+    call (renderRefusal (s .voice .«sample_rate_hz») k size) (after (step b size) size begun) (samples (step b size) size begun) s out

@@ -1,20 +1,22 @@
 // drums/synthetic_snare_drum.rs: naive snare drum model, two modulated oscillators and filtered noise, with its sustain mode.
 ghost use mathlib.Core.Path.{_≡_};
-ghost use Prim.Native.Nat.{_≤_};
+ghost use mathlib.Core.Bool.{cond};
+ghost use Prim.Native.Nat.{ℕ, _≤_};
+ghost use lib.Ieee.{lt, neg};
 ghost use lib.ListN.{length};
-ghost use Rattle.ieee754.specs.Single.{_⊕_, decimal};
+ghost use Rattle.ieee754.specs.Single.{_⊕_, _⊖_, decimal};
 ghost use Rattle.ieee754.specs.Operations.{abs};
-ghost use Rattle.refusal.specs.Refusal.{answerNumber};
+ghost use Rattle.refusal.specs.Refusal.{answerNumber, noisy};
+ghost use Rattle.refusal.specs.declared.Answer.the-variants.{Accepted};
 ghost use Rattle.block.specs.Block.{samples, after};
 ghost use Rattle.synthetic_snare_drum.specs.SyntheticSnareDrum as spec;
+ghost use Rattle.synthetic_snare_drum.specs.Parts.{turned, enveloped};
 use filter::FilterMode;
 use filter::FrequencyApproximation;
 use filter::OnePole;
-use filter::OnePoleOutput;
 use filter::Svf;
 use parameter_interpolator::ParameterInterpolator;
 use refusal::Answer;
-use refusal::Refusal;
 
 #[repr(C)]
 pub struct SyntheticSnareDrum {
@@ -28,6 +30,17 @@ pub struct SyntheticSnareDrum {
     pub drum_lp: OnePole,
     pub snare_hp: OnePole,
     pub snare_lp: Svf,
+}
+
+// The parameters of a block.
+#[repr(C)]
+pub struct Knobs {
+    pub sustain: bool,
+    pub accent: f32,
+    pub f0: f32,
+    pub fm_amount: f32,
+    pub decay: f32,
+    pub snappy: f32,
 }
 
 // What `init` answers, and the voice after it.
@@ -54,35 +67,14 @@ struct Settings {
     snappy: f32,
     drum_level: f32,
     snare_level: f32,
+    increment: f32,
 }
 
-// What the loop changes. While it runs, the gain stands for the voice's sustain_gain.
-struct Sounding {
+// One turn of the loop: the voice and the noise state after it, and its sample.
+struct Turn {
     voice: SyntheticSnareDrum,
-    gain: ParameterInterpolator,
     noise: u32,
-}
-
-// One turn of the loop: its sample, and the state after it.
-struct Sounded {
     sample: f32,
-    next: Sounding,
-}
-
-// The envelopes of one turn.
-struct Envelopes {
-    drum_amplitude: f32,
-    snare_amplitude: f32,
-    fm: f32,
-    hold_counter: u32,
-    gain: ParameterInterpolator,
-}
-
-// The filters of the noise after one turn, and what they let through.
-struct SnareOutput {
-    snare_hp: OnePole,
-    snare_lp: Svf,
-    out: f32,
 }
 
 impl SyntheticSnareDrum {
@@ -101,19 +93,19 @@ impl SyntheticSnareDrum {
     };
 
     pub fn init(self, sample_rate_hz: f32) -> Answered
-        ensures answer { λ r. ⌜ answerNumber (r .answer) ≡ spec.initRefusal «sample_rate_hz» ⌝ }
-        ensures voice { λ r. ⌜ r .voice ≡ spec.init self «sample_rate_hz» ⌝ }
+        ensures number { λ r. ⌜ answerNumber (r .answer) ≡ spec.init self «sample_rate_hz» .number ⌝ }
+        ensures voice { λ r. ⌜ r .voice ≡ spec.init self «sample_rate_hz» .state ⌝ }
     {
-        if refusal::is_sample_rate(sample_rate_hz) {
-            let voice = self.initialized(sample_rate_hz);
-            return Answered {
-                answer: Answer::Accepted,
-                voice,
-            };
-        }
-        Answered {
-            answer: Answer::Refused(Refusal::SampleRate),
-            voice: self,
+        let answer = refusal::ask_sample_rate(sample_rate_hz, Answer::Accepted);
+        match answer {
+            Answer::Refused(_) => Answered {
+                answer,
+                voice: self,
+            },
+            Answer::Accepted => {
+                let voice = self.initialized(sample_rate_hz);
+                Answered { answer, voice }
+            }
         }
     }
 
@@ -132,25 +124,13 @@ impl SyntheticSnareDrum {
         }
     }
 
-    pub fn render(
-        self,
-        noise: u32,
-        sustain: bool,
-        trigger: bool,
-        accent: f32,
-        f0: f32,
-        fm_amount: f32,
-        decay: f32,
-        snappy: f32,
-        out: &mut [f32],
-    ) -> Rendered
-        ensures answer { λ r. ⌜ answerNumber (r .answer) ≡ spec.renderRefusal (self .«sample_rate_hz») (length (now (out .entry))) accent f0 «fm_amount» decay snappy ⌝ }
-        ensures voice { λ r. ⌜ r .voice ≡ spec.render self noise sustain trigger accent f0 «fm_amount» decay snappy (length (now (out .entry))) ⌝ }
-        ensures noise { λ r. ⌜ r .noise ≡ spec.renderNoise self noise sustain trigger accent f0 «fm_amount» decay snappy (length (now (out .entry))) ⌝ }
-        ensures block { λ _. ⌜ now (out .exit) ≡ spec.renderOut self noise sustain trigger accent f0 «fm_amount» decay snappy (now (out .entry)) ⌝ }
+    pub fn render(self, noise: u32, trigger: bool, knobs: Knobs, out: &mut [f32]) -> Rendered
+        ensures number { λ r. ⌜ answerNumber (r .answer) ≡ spec.render (noisy self noise) trigger knobs (now (out .entry)) .number ⌝ }
+        ensures voice { λ r. ⌜ r .voice ≡ spec.render (noisy self noise) trigger knobs (now (out .entry)) .state .voice ⌝ }
+        ensures noise { λ r. ⌜ r .noise ≡ spec.render (noisy self noise) trigger knobs (now (out .entry)) .state .noise ⌝ }
+        ensures out { λ _. ⌜ now (out .exit) ≡ spec.render (noisy self noise) trigger knobs (now (out .entry)) .out ⌝ }
     {
-        let rate = self.sample_rate_hz;
-        let answer = asked(rate, out.len(), accent, f0, fm_amount, decay, snappy);
+        let answer = knobs.asked(self.sample_rate_hz, out.len());
         match answer {
             Answer::Refused(_) => Rendered {
                 answer,
@@ -158,22 +138,17 @@ impl SyntheticSnareDrum {
                 noise,
             },
             Answer::Accepted => {
-                let settings = Settings::new(rate, sustain, f0, fm_amount, decay, snappy);
-                let begun = self.begun(settings, noise, trigger, accent, decay, out.len());
-                let sounding = begun.run(settings, out);
-                let voice = sounding.ended();
-                Rendered {
-                    answer,
-                    voice,
-                    noise: sounding.noise,
-                }
+                let settings = knobs.settings(self, out.len());
+                let voice = self.tuned(settings)
+                    .triggered(trigger, knobs.accent, knobs.decay);
+                voice.run(noise, settings, out)
             }
         }
     }
 
     // The filters at the block's frequencies.
     fn tuned(self, settings: Settings) -> Self
-        ensures { λ r. ⌜ r ≡ spec.tuned settings self ⌝ }
+        ensures { λ r. ⌜ r ≡ spec.tuned self settings ⌝ }
     {
         let snare_f_min = ieee754::minimum_number(10.0 * settings.f0, 0.5);
         let snare_f_max = ieee754::minimum_number(35.0 * settings.f0, 0.5);
@@ -195,7 +170,7 @@ impl SyntheticSnareDrum {
     }
 
     fn triggered(self, trigger: bool, accent: f32, decay: f32) -> Self
-        ensures { λ r. ⌜ r ≡ spec.triggered self trigger accent decay ⌝ }
+        ensures { λ r. ⌜ r ≡ cond trigger (spec.triggered self accent decay) self ⌝ }
     {
         if trigger {
             let snare_amplitude = 0.3 + 0.7 * accent;
@@ -212,215 +187,163 @@ impl SyntheticSnareDrum {
         }
     }
 
-    // The state as the loop begins.
-    fn begun(
-        self,
-        settings: Settings,
-        noise: u32,
-        trigger: bool,
-        accent: f32,
-        decay: f32,
-        size: usize,
-    ) -> Sounding
-        requires { ⌜ size ≤ 16384 ⌝ }
-        ensures { λ r. ⌜ r ≡ spec.begun settings self noise trigger accent decay size ⌝ }
+    // The loop over the block of an accepted call.
+    fn run(self, mut noise: u32, settings: Settings, out: &mut [f32]) -> Rendered
+        ensures answer { λ r. ⌜ r .answer ≡ Accepted ⌝ }
+        ensures state { λ r. let n = length (now (out .entry)) in ⌜ noisy (r .voice) (r .noise) ≡ after (spec.step settings n) n (noisy self noise) ⌝ }
+        ensures out { λ _. let n = length (now (out .entry)) in ⌜ now (out .exit) ≡ samples (spec.step settings n) n (noisy self noise) ⌝ }
     {
-        let voice = self.tuned(settings).triggered(trigger, accent, decay);
-        let gain = ParameterInterpolator::new(voice.sustain_gain, accent * decay, size as u32);
-        Sounding { voice, gain, noise }
-    }
-}
-
-// The questions of `render`, in the order of their numbers.
-fn asked(
-    rate: f32,
-    samples: usize,
-    accent: f32,
-    f0: f32,
-    fm_amount: f32,
-    decay: f32,
-    snappy: f32,
-) -> Answer
-    ensures { λ r. ⌜ answerNumber r ≡ spec.renderRefusal rate samples accent f0 «fm_amount» decay snappy ⌝ }
-{
-    let block = refusal::ask_block(
-        samples,
-        f0,
-        accent,
-        fm_amount,
-        decay,
-        snappy,
-        Answer::Accepted,
-    );
-    refusal::ask(refusal::is_sample_rate(rate), Refusal::SampleRate, block)
-}
-
-impl Settings {
-    // The lines before the loop.
-    fn new(
-        sample_rate_hz: f32,
-        sustain: bool,
-        f0: f32,
-        fm_amount: f32,
-        decay: f32,
-        snappy: f32,
-    ) -> Self
-        ensures { λ r. ⌜ r ≡ spec.settings «sample_rate_hz» sustain f0 «fm_amount» decay snappy ⌝ }
-    {
-        let decay_xt = decay * (1.0 + decay * (decay - 1.0));
-        let fm_squared = fm_amount * fm_amount;
-        let clamped = ieee754::clamp(snappy * 1.1 - 0.05, 0.0, 1.0);
-        Settings {
-            sustain,
-            f0,
-            fm_amount: fm_squared,
-            drum_decay: 1.0
-                - 1.0 / (0.015 * sample_rate_hz)
-                    * units::semitones_to_ratio(
-                        -decay_xt * 72.0 - fm_squared * 12.0 + snappy * 7.0,
-                    ),
-            snare_decay: 1.0
-                - 1.0 / (0.01 * sample_rate_hz)
-                    * units::semitones_to_ratio(-decay * 60.0 - snappy * 7.0),
-            fm_decay: 1.0 - 1.0 / (0.007 * sample_rate_hz),
-            snappy: clamped,
-            drum_level: utils::sqrt(1.0 - clamped),
-            snare_level: utils::sqrt(clamped),
-        }
-    }
-}
-
-impl Sounding {
-    // The loop over the block.
-    fn run(self, settings: Settings, out: &mut [f32]) -> Self
-        ensures state { λ r. ⌜ r ≡ after (spec.turn settings) (length (now (out .entry))) self ⌝ }
-        ensures block { λ _. ⌜ now (out .exit) ≡ samples (spec.turn settings) (length (now (out .entry))) self ⌝ }
-    {
-        let mut sounding = self;
+        let mut voice = self;
         let mut i = 0;
         while i < out.len() {
-            let turn = sounding.step(settings);
-            sounding = turn.next;
+            let turn = voice.step(noise, settings);
+            voice = turn.voice;
+            noise = turn.noise;
             out[i] = turn.sample;
             i += 1;
         }
-        sounding
+        Rendered {
+            answer: Answer::Accepted,
+            voice,
+            noise,
+        }
     }
 
     // One turn of the loop.
-    fn step(self, settings: Settings) -> Sounded
-        ensures { λ r. ⌜ r ≡ spec.step settings self ⌝ }
+    fn step(self, noise: u32, settings: Settings) -> Turn
+        ensures { λ r. ⌜ ((size : ℕ) → spec.step settings size (noisy self noise) ≡ turned r) ⌝ }
     {
-        let old = self.voice;
-        let envelopes = self.envelopes(settings);
-        let phase_before = old.phase;
-        let phase = phases(settings, phase_before, envelopes.fm);
-        let drum = drum(settings, envelopes, old.drum_lp, phase);
-        let noise = random::get_float(self.noise);
-        let snare = snare(settings, envelopes, old.snare_hp, old.snare_lp, noise.value);
+        let v = self.enveloped(settings);
+        let phase_0 = v.phase[0];
+        let phase_1 = v.phase[1];
+
+        // The 909 circuit has a funny kind of oscillator coupling: the signal leaving Q40's collector and
+        // resetting all oscillators allows some intermodulation.
+        let amount = ieee754::clamp((0.125 - settings.f0) * 8.0, 0.0, 1.0);
+        let reset_noise_amount = amount * amount * settings.fm_amount;
+        let signs = 0.0 + reset_sign(phase_0) + reset_sign(phase_1);
+        let reset_noise = signs * (reset_noise_amount * 0.025);
+        let f = settings.f0 * (1.0 + settings.fm_amount * (4.0 * v.fm));
+        let phase_0 = reset(reset_noise_amount, reset_noise, phase_0 + f);
+        let phase_1 = reset(reset_noise_amount, reset_noise, phase_1 + f * 1.47);
+
+        let sines = -0.1 + distorted_sine(phase_0) * 0.60 + distorted_sine(phase_1) * 0.25;
+        let drum = v.drum_lp.process(
+            sines * (v.drum_amplitude * settings.drum_level),
+            FilterMode::LowPass,
+        );
+        let draw = random::get_float(noise);
+        let low = v.snare_lp.process(draw.value, FilterMode::LowPass);
+        let high = v.snare_hp.process(low.out, FilterMode::HighPass);
+        let snare = (high.out + 0.1) * (v.snare_amplitude + v.fm) * settings.snare_level;
         let drum_lp = drum.filter;
-        let snare_hp = snare.snare_hp;
-        let snare_lp = snare.snare_lp;
-        let gain = envelopes.gain;
+        let snare_hp = high.filter;
+        let snare_lp = low.filter;
         let voice = SyntheticSnareDrum {
-            phase,
-            drum_amplitude: envelopes.drum_amplitude,
-            snare_amplitude: envelopes.snare_amplitude,
-            fm: envelopes.fm,
-            hold_counter: envelopes.hold_counter,
+            phase: [phase_0, phase_1],
             drum_lp,
             snare_hp,
             snare_lp,
-            ..old
+            ..v
         };
-        Sounded {
-            sample: snare.out + drum.out,
-            next: Sounding {
-                voice,
-                gain,
-                noise: noise.word,
-            },
+        Turn {
+            voice,
+            noise: draw.word,
+            sample: snare + drum.out,
         }
     }
 
     // Only a sustained block steps the gain. In any other all envelopes decay, the snare's after a "hold" stage which lasts
     // between 40 and 70 ms.
-    fn envelopes(self, settings: Settings) -> Envelopes
-        ensures { λ r. ⌜ r ≡ spec.envelopes settings self ⌝ }
+    fn enveloped(self, settings: Settings) -> Self
+        ensures { λ r. ⌜ r ≡ enveloped self settings ⌝ }
     {
-        let voice = self.voice;
         if settings.sustain {
-            let gain = self.gain.next();
-            return Envelopes {
-                drum_amplitude: gain.value,
-                snare_amplitude: gain.value,
+            let sustain_gain = ParameterInterpolator {
+                value: self.sustain_gain,
+                increment: settings.increment,
+            };
+            let next = sustain_gain.next();
+            return SyntheticSnareDrum {
+                drum_amplitude: next.value,
+                snare_amplitude: next.value,
                 fm: 0.0,
-                hold_counter: voice.hold_counter,
-                gain,
+                sustain_gain: next.value,
+                ..self
             };
         }
-        let gain = self.gain;
-        let drum_amplitude = voice.drum_amplitude * settings.drum_decay;
-        let fm = voice.fm * settings.fm_decay;
-        if voice.hold_counter == 0 {
-            return Envelopes {
-                drum_amplitude,
-                snare_amplitude: voice.snare_amplitude * settings.snare_decay,
-                fm,
-                hold_counter: 0,
-                gain,
+        if self.hold_counter == 0 {
+            return SyntheticSnareDrum {
+                drum_amplitude: self.drum_amplitude * settings.drum_decay,
+                snare_amplitude: self.snare_amplitude * settings.snare_decay,
+                fm: self.fm * settings.fm_decay,
+                ..self
             };
         }
-        Envelopes {
-            drum_amplitude,
-            snare_amplitude: voice.snare_amplitude,
-            fm,
-            hold_counter: voice.hold_counter - 1,
-            gain,
-        }
-    }
-
-    // The voice after the block: its sustain_gain is where the gain has come to.
-    fn ended(self) -> SyntheticSnareDrum
-        ensures { λ r. ⌜ r ≡ spec.ended self ⌝ }
-    {
-        let voice = self.voice;
         SyntheticSnareDrum {
-            sustain_gain: self.gain.value,
-            ..voice
+            drum_amplitude: self.drum_amplitude * settings.drum_decay,
+            fm: self.fm * settings.fm_decay,
+            hold_counter: self.hold_counter - 1,
+            ..self
         }
     }
 }
 
-// The 909 circuit has a funny kind of oscillator coupling: the signal leaving Q40's collector and
-// resetting all oscillators allows some intermodulation.
-fn phases(settings: Settings, phase: [f32; 2], fm: f32) -> [f32; 2]
-    ensures { λ r. ⌜ r ≡ spec.phases settings phase fm ⌝ }
-{
-    let amount = reset_noise_amount(settings);
-    let reset_noise = (0.0 + reset_sign(phase[0]) + reset_sign(phase[1])) * (amount * 0.025);
-    let f = settings.f0 * (1.0 + settings.fm_amount * (4.0 * fm));
-    let first = reset(phase[0] + f, amount, reset_noise);
-    let second = reset(phase[1] + f * 1.47, amount, reset_noise);
-    [first, second]
-}
+impl Knobs {
+    // The questions of `render`, the last one first.
+    fn asked(self, sample_rate_hz: f32, samples: usize) -> Answer
+        ensures { λ r. ⌜ answerNumber r ≡ spec.renderRefusal «sample_rate_hz» self samples ⌝ }
+    {
+        let snappy = refusal::ask_knob(self.snappy, Answer::Accepted);
+        let decay = refusal::ask_knob(self.decay, snappy);
+        let fm_amount = refusal::ask_knob(self.fm_amount, decay);
+        let accent = refusal::ask_accent(self.accent, fm_amount);
+        let f0 = refusal::ask_frequency(self.f0, accent);
+        let length = refusal::ask_block_length(samples, f0);
+        refusal::ask_sample_rate(sample_rate_hz, length)
+    }
 
-fn reset_noise_amount(settings: Settings) -> f32
-    ensures { λ r. ⌜ r ≡ spec.resetNoiseAmount settings ⌝ }
-{
-    let amount = ieee754::clamp((0.125 - settings.f0) * 8.0, 0.0, 1.0);
-    amount * amount * settings.fm_amount
+    // The lines before the loop.
+    fn settings(self, voice: SyntheticSnareDrum, samples: usize) -> Settings
+        requires { ⌜ samples ≤ 16384 ⌝ }
+        ensures { λ r. ⌜ r ≡ spec.settings voice self samples ⌝ }
+    {
+        let rate = voice.sample_rate_hz;
+        let decay = self.decay;
+        let decay_xt = decay * (1.0 + decay * (decay - 1.0));
+        let fm_amount = self.fm_amount * self.fm_amount;
+        let drum_pitch = -decay_xt * 72.0 - fm_amount * 12.0 + self.snappy * 7.0;
+        let snare_pitch = -decay * 60.0 - self.snappy * 7.0;
+        let snappy = ieee754::clamp(self.snappy * 1.1 - 0.05, 0.0, 1.0);
+        let sustain_gain = ParameterInterpolator::new(
+            voice.sustain_gain,
+            self.accent * decay,
+            samples as u32,
+        );
+        Settings {
+            sustain: self.sustain,
+            f0: self.f0,
+            fm_amount,
+            drum_decay: 1.0 - 1.0 / (0.015 * rate) * units::semitones_to_ratio(drum_pitch),
+            snare_decay: 1.0 - 1.0 / (0.01 * rate) * units::semitones_to_ratio(snare_pitch),
+            fm_decay: 1.0 - 1.0 / (0.007 * rate),
+            snappy,
+            drum_level: utils::sqrt(1.0 - snappy),
+            snare_level: utils::sqrt(snappy),
+            increment: sustain_gain.increment,
+        }
+    }
 }
 
 fn reset_sign(phase: f32) -> f32
-    ensures { λ r. ⌜ r ≡ spec.resetSign phase ⌝ }
+    ensures { λ r. ⌜ r ≡ cond (lt (decimal 5 1) phase) (neg (decimal 1 0)) (decimal 1 0) ⌝ }
 {
     if phase > 0.5 { -1.0 } else { 1.0 }
 }
 
 // A phase at its end starts again. As in the Rust this is no wrap: a phase may stay outside of 0 to 1.
-fn reset(phase: f32, reset_noise_amount: f32, reset_noise: f32) -> f32
-    ensures { λ r. ⌜ r ≡ spec.reset phase «reset_noise_amount» «reset_noise» ⌝ }
+fn reset(reset_noise_amount: f32, reset_noise: f32, phase: f32) -> f32
+    ensures { λ r. ⌜ r ≡ spec.reset «reset_noise_amount» «reset_noise» phase ⌝ }
 {
     if reset_noise_amount > 0.1 {
         if phase >= 1.0 + reset_noise {
@@ -434,21 +357,6 @@ fn reset(phase: f32, reset_noise_amount: f32, reset_noise: f32) -> f32
     phase
 }
 
-fn drum(
-    settings: Settings,
-    envelopes: Envelopes,
-    drum_lp: OnePole,
-    phase: [f32; 2],
-) -> OnePoleOutput
-    ensures { λ r. ⌜ r ≡ spec.drum settings envelopes «drum_lp» phase ⌝ }
-{
-    let drum = -0.1 + distorted_sine(phase[0]) * 0.60 + distorted_sine(phase[1]) * 0.25;
-    drum_lp.process(
-        drum * (envelopes.drum_amplitude * settings.drum_level),
-        FilterMode::LowPass,
-    )
-}
-
 fn distorted_sine(phase: f32) -> f32
     ensures { λ r. ⌜ r ≡ spec.distortedSine phase ⌝ }
 {
@@ -458,7 +366,7 @@ fn distorted_sine(phase: f32) -> f32
 
 // The smaller of phase and 1.0 - phase: below 0.5 it is the phase.
 fn folded(phase: f32) -> f32
-    ensures { λ r. ⌜ r ≡ spec.folded phase ⌝ }
+    ensures { λ r. ⌜ r ≡ cond (lt phase (decimal 5 1)) phase (decimal 1 0 ⊖ phase) ⌝ }
 {
     let rest = 1.0 - phase;
     if phase < rest { phase } else { rest }
@@ -471,25 +379,4 @@ fn one_plus_abs(x: f32) -> f32
     let below = 1.0 - x;
     let above = 1.0 + x;
     if below > above { below } else { above }
-}
-
-fn snare(
-    settings: Settings,
-    envelopes: Envelopes,
-    snare_hp: OnePole,
-    snare_lp: Svf,
-    noise: f32,
-) -> SnareOutput
-    ensures { λ r. ⌜ r ≡ spec.snare settings envelopes «snare_hp» «snare_lp» noise ⌝ }
-{
-    let low = snare_lp.process(noise, FilterMode::LowPass);
-    let high = snare_hp.process(low.out, FilterMode::HighPass);
-    let hp = high.filter;
-    let lp = low.filter;
-    let envelope = envelopes.snare_amplitude + envelopes.fm;
-    SnareOutput {
-        snare_hp: hp,
-        snare_lp: lp,
-        out: (high.out + 0.1) * envelope * settings.snare_level,
-    }
 }

@@ -19,10 +19,11 @@ abbrev μ-loop : tie.MeasureT-loop
 again : tie.Need-loop-again Inv-loop μ-loop
 again c =
     let l = c .before .before .before .loop in
-    rw (c .before .step .ensures .0, c .before .step .ensures .1) (going _ _ _ _ _ _ _ (l .inv) (omega (arith, l .inv .long)))
+    rw (c .level .ensures, c .before .advanced .ensures) (going _ _ _ _ _ _ _ (l .inv) (omega (arith, l .inv .long)))
 
 pub render-spec : {M : Type 1} → statement M
 render-spec =
-    tie.close (tie.spec Inv-loop μ-loop (λ c κs. search needs) (λ c. begin _ _ _ _ (omega arith)) (λ c κs. search needs) (λ c. search needs)
-    (λ c. search needs) (λ c. search needs) (λ c. simp length-set (omega arith)) again (λ c. search needs)
+    tie.close
+    (tie.spec Inv-loop μ-loop (λ c κs. search needs) (λ c. begin _ _ _ _ (omega arith)) (λ c κs. search needs) (λ c κs. search needs)
+    (λ c. search needs) (λ c. search needs) (λ c. search needs) (λ c. simp length-set (omega arith)) again (λ c. search needs)
     (λ c. rw (← c .before .before .increments .ensures) (end-source _ _ _ _ _ _ (c .before .loop .inv) (c .loop-test .left))))

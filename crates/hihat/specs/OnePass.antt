@@ -1,0 +1,24 @@
+-- THE PORT'S OWN, which private contracts alone cite: the five passes in one, each sample through all of them in turn. Definitions only.
+use lib.Ieee.{Float}
+use Rattle.block.specs.Block.{Turn, source}
+use Rattle.block.specs.OnePass.{then}
+use Rattle.refusal.specs.Refusal.{Noisy, noisy}
+use Rattle.hihat.specs.declared.Hihat.{Hihat}
+use Rattle.hihat.specs.declared.Settings.{Settings}
+use Rattle.hihat.specs.declared.turn.Turn.{Turn as Sample}
+use Rattle.hihat.specs.Hihat.{metallic, setColoration, colored, clocked, vca, setHpf, highPassed}
+
+-- both filters set before the one pass
+abbrev pub tuned : Settings → Hihat → Hihat
+tuned b self = setHpf b (setColoration b self)
+
+-- the first pass is a source, so what stands in the buffer is not read
+unfoldable pub step : Settings → Noisy Hihat → Float → Turn (Noisy Hihat)
+step b = then (then (then (then (source (metallic b)) colored) (clocked b)) (vca b)) highPassed
+
+-- what the code's struct says
+abbrev pub behind : Sample → Noisy Hihat
+behind t = noisy (t .voice) (t .noise)
+
+abbrev pub turned : Sample → Turn (Noisy Hihat)
+turned t = record { sample = t .sample; next = behind t }

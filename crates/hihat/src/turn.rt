@@ -1,0 +1,151 @@
+// One sample through the passes of `Hihat::render`, past the metallic noise.
+ghost use mathlib.Core.Path.{_≡_};
+ghost use Rattle.hihat.specs.Hihat as spec;
+ghost use Rattle.hihat.specs.OnePass.{behind, turned};
+use crate::Hihat;
+use crate::Settings;
+use crate::VcaType;
+use filter::FilterMode;
+
+// A sample on its way through the passes, with the voice and the noise state.
+pub struct Turn {
+    pub voice: Hihat,
+    pub noise: u32,
+    pub sample: f32,
+}
+
+impl Turn {
+    // Apply BPF on the metallic noise.
+    pub(crate) fn colored(self) -> Self
+        ensures { λ r. ⌜ turned r ≡ spec.colored (behind self) (self .sample) ⌝ }
+    {
+        let v = self.voice;
+        let o = v.noise_coloration_svf
+            .process(self.sample, FilterMode::BandPass);
+        let noise_coloration_svf = o.filter;
+        Turn {
+            voice: Hihat {
+                noise_coloration_svf,
+                ..v
+            },
+            noise: self.noise,
+            sample: o.out,
+        }
+    }
+
+    // Noise that is drawn anew at each tick of the clock, blended with the sample.
+    pub(crate) fn clocked(self, settings: Settings) -> Self
+        ensures { λ r. ⌜ turned r ≡ spec.clocked settings (behind self) (self .sample) ⌝ }
+    {
+        let t = self.ticked(settings);
+        Turn {
+            sample: t.sample + settings.noisiness * (t.voice.noise_sample - t.sample),
+            ..t
+        }
+    }
+
+    fn ticked(self, settings: Settings) -> Self
+        ensures voice { λ r. ⌜ r .voice ≡ spec.clocked settings (behind self) (self .sample) .next .voice ⌝ }
+        ensures noise { λ r. ⌜ r .noise ≡ spec.clocked settings (behind self) (self .sample) .next .noise ⌝ }
+        ensures sample { λ r. ⌜ r .sample ≡ self .sample ⌝ }
+    {
+        let v = self.voice;
+        let noise_clock = v.noise_clock + settings.noise_f;
+        if noise_clock >= 1.0 {
+            let draw = random::get_float(self.noise);
+            return Turn {
+                voice: Hihat {
+                    noise_clock: noise_clock - 1.0,
+                    noise_sample: draw.value - 0.5,
+                    ..v
+                },
+                noise: draw.word,
+                ..self
+            };
+        }
+        Turn {
+            voice: Hihat { noise_clock, ..v },
+            ..self
+        }
+    }
+
+    // Apply VCA.
+    pub(crate) fn amplified(self, settings: Settings) -> Self
+        ensures { λ r. ⌜ turned r ≡ spec.vca settings (behind self) (self .sample) ⌝ }
+    {
+        let v = self.voice;
+        let vca_type = settings.vca_type;
+        let envelope = v.envelope * decay(settings, v.envelope);
+        if settings.sustain {
+            let sustain_gain = v.sustain_gain + settings.gain_increment;
+            return Turn {
+                voice: Hihat {
+                    envelope,
+                    sustain_gain,
+                    ..v
+                },
+                noise: self.noise,
+                sample: amplify(vca_type, self.sample, sustain_gain),
+            };
+        }
+        Turn {
+            voice: Hihat { envelope, ..v },
+            noise: self.noise,
+            sample: amplify(vca_type, self.sample, envelope),
+        }
+    }
+
+    pub(crate) fn high_passed(self) -> Self
+        ensures { λ r. ⌜ turned r ≡ spec.highPassed (behind self) (self .sample) ⌝ }
+    {
+        let v = self.voice;
+        let o = v.hpf.process(self.sample, FilterMode::HighPass);
+        let hpf = o.filter;
+        Turn {
+            voice: Hihat { hpf, ..v },
+            noise: self.noise,
+            sample: o.out,
+        }
+    }
+}
+
+fn decay(settings: Settings, envelope: f32) -> f32
+    ensures { λ r. ⌜ r ≡ spec.decay settings envelope ⌝ }
+{
+    if envelope > 0.5 {
+        return settings.envelope_decay;
+    }
+    if settings.two_stage_envelope {
+        return settings.cut_decay;
+    }
+    settings.envelope_decay
+}
+
+fn amplify(vca_type: VcaType, s: f32, gain: f32) -> f32
+    ensures { λ r. ⌜ r ≡ spec.amplify «vca_type» s gain ⌝ }
+{
+    match vca_type {
+        VcaType::Swing => swing_vca(s, gain),
+        VcaType::Linear => linear_vca(s, gain),
+    }
+}
+
+fn swing_vca(s: f32, gain: f32) -> f32
+    ensures { λ r. ⌜ r ≡ spec.swingVca s gain ⌝ }
+{
+    let driven = drive(s);
+    (driven / (1.0 + ieee754::abs(driven)) + 0.1) * gain
+}
+
+// The gain of the two halves of the wave.
+fn drive(s: f32) -> f32
+    ensures { λ r. ⌜ r ≡ spec.drive s ⌝ }
+{
+    if s > 0.0 { s * 4.0 } else { s * 0.1 }
+}
+
+fn linear_vca(s: f32, gain: f32) -> f32
+    ensures { λ r. ⌜ r ≡ spec.linearVca s gain ⌝ }
+{
+    s * gain
+}

@@ -44,7 +44,7 @@ module _ (xs out₀ : List Float) (same : length xs ≡ length out₀) where
         ∙ rw (scan-copy 0 xs, same, drop-length out₀, append-nil xs)
 
 -- ---- silence
-silence-length : (n : ℕ) → length (silence n) ≡ n
+pub silence-length : (n : ℕ) → length (silence n) ≡ n
 unfolding silence
 silence-length n = length-replicate n _
 
@@ -64,10 +64,8 @@ module _ (out₀ : List Float) where
     clear-end = fill-end _ _ (silence-length _) _ _ g
 
 -- a scratch as long as a segment of n samples, once it is cleared
-pub cleared-scratch : (scratch : List Float) (m n : ℕ) → m ≡ n → scratch ≡ silence m → (scratch ≡ silence n) × (length scratch ≡ n)
-cleared-scratch scratch m n long e =
-    let cleared = e ∙ ap silence long in
-    (cleared, ap length cleared ∙ silence-length n)
+pub cleared-scratch : (scratch : List Float) (m n : ℕ) → m ≡ n → scratch ≡ silence m → scratch ≡ silence n
+cleared-scratch scratch m n long e = e ∙ ap silence long
 
 -- ---- sums
 added-length : (xs ys : List Float) → length (added xs ys) ≡ length xs

@@ -5,26 +5,30 @@ use mathlib.Core.Path.{_≡_, refl, sym, ap, _∙_}
 use mathlib.Core.Bool.{Bool, true, false, cond, true≢false}
 use mathlib.Core.List.{List, [], _∷_}
 use lib.IntN.{pos}
+use lib.ListN as List
 use lib.Ieee.{Float, binary32, le, round, ofInt}
 use lib.Ieee.Back.{round-whole}
 use lib.Ieee.Order.{le-of-values}
 use lib.Ieee.Bits.{is-true}
 use borrow.Author.Tests.{le-leb}
 use Rattle.ieee754.specs.Single.{decimal}
-use Rattle.block.proofs.Blocks.{after-kept}
-use Rattle.refusal.specs.Refusal.{isSampleRate, isUnit, isBassDecay, within, unlessRefused}
+use Rattle.block.specs.Block.{after, Passed as PassedBlock}
+use Rattle.block.proofs.Blocks.{after-keeps, scanned-keeps}
+use Rattle.refusal.specs.Refusal.{Noisy, noisy, isSampleRate, isUnit, isBassDecay, within, unlessRefused}
 use Rattle.analog_bass_drum.specs.AnalogBassDrum as AnalogBassDrum
 use Rattle.analog_snare_drum.specs.AnalogSnareDrum as AnalogSnareDrum
 use Rattle.synthetic_snare_drum.specs.SyntheticSnareDrum as SyntheticSnareDrum
 use Rattle.synthetic_snare_drum.specs.declared.SyntheticSnareDrum.{SyntheticSnareDrum as SyntheticSnare}
+use Rattle.synthetic_snare_drum.specs.declared.Knobs.{Knobs as SyntheticSnareKnobs}
 use Rattle.hihat.specs.Hihat as hihat
 use Rattle.hihat.specs.declared.Hihat.{Hihat as HihatVoice}
+use Rattle.hihat.specs.declared.Knobs.{Knobs as HihatKnobs}
 use Rattle.hihat.specs.declared.VcaType.the-variants.{Swing}
 use Rattle.cue_sheet.specs.Sheet.{accepted, Strike, judge, strikes}
 use Rattle.cue_sheet.specs.declared.Cue.{Cue}
 use Rattle.cue_sheet.specs.declared.Cue.the-variants.{Bass, Snare, SyntheticSnare as Synthetic, Hihat}
 use Rattle.cue_sheet.proofs.Questions.{KnobsIn, KnobsOf}
-use Rattle.cue_render.specs.Part.{knobsOf, bassAfter, snareAfter, syntheticSnareAfter, hihatAfter}
+use Rattle.cue_render.specs.Part.{knobsOf, ofBass, bassCall, bassAfter, snareCall, snareAfter, syntheticSnareCall, syntheticSnareAfter, hihatCall, hihatAfter}
 use Rattle.cue_render.specs.Kit.{unstruck, start, afterSegment, strike}
 use Rattle.cue_render.specs.Calls.{StartAccepted, SegmentAccepted, SegmentsAccepted}
 use Rattle.cue_render.specs.declared.part.Playing.{Playing}
@@ -34,6 +38,8 @@ use Rattle.cue_render.specs.declared.part.SyntheticSnarePlayed.{Syntheti
 use Rattle.cue_render.specs.declared.part.HihatPlayed.{HihatPlayed}
 use Rattle.cue_render.specs.declared.kit.Kit.{Kit}
 use Rattle.cue_sheet.proofs.FirstLines.{HeadIn}
+use Rattle.cue_render.specs.Mix.{silence}
+use Rattle.cue_render.proofs.Fill.{silence-length}
 use Rattle.cue_render.proofs.AcceptedSheet.{CuesIn, sheet-accepted}
 
 -- ---- a sheet's rate is a sample rate
@@ -50,33 +56,51 @@ abbrev Passed : (Float → Bool) → Playing → Type 0
 Passed decays p = p .struck ≡ true → KnobsIn decays (p .knobs .accent) (p .knobs .f0) (p .knobs .a) (p .knobs .decay) (p .knobs .c)
 
 -- ---- the voices that store the rate keep it
-module _ (v : SyntheticSnare) (noise : ℕ) (accent f0 a decay c : Float) (n : ℕ) where
-  begun-rate : (trigger : Bool)
-      → let b = SyntheticSnareDrum.settings (v .«sample_rate_hz») false f0 a decay c in
-      SyntheticSnareDrum.begun b v noise trigger accent decay n .voice .«sample_rate_hz» ≡ v .«sample_rate_hz»
-  unfolding SyntheticSnareDrum.begun SyntheticSnareDrum.triggered SyntheticSnareDrum.tuned
-  begun-rate true = refl
-  begun-rate false = refl
+kept : {A B : Type 0} (part : A → B) (n : ℕ) (new old : A) → part new ≡ part old → part (unlessRefused n new old) ≡ part old
+kept part zero new old same = same
+kept part (suc n) new old same = refl
 
-  synthetic-rate : (trigger : Bool) → SyntheticSnareDrum.render v noise false trigger accent f0 a decay c n .«sample_rate_hz» ≡ v .«sample_rate_hz»
-  unfolding SyntheticSnareDrum.ended SyntheticSnareDrum.step
-  synthetic-rate trigger = go (SyntheticSnareDrum.renderRefusal (v .«sample_rate_hz») n accent f0 a decay c)
-    where
-      go : (m : ℕ)
-          → unlessRefused m (SyntheticSnareDrum.ended (SyntheticSnareDrum.played v noise false trigger accent f0 a decay c n)) v .«sample_rate_hz»
-          ≡ v .«sample_rate_hz»
-      go zero =
-          let b = SyntheticSnareDrum.settings (v .«sample_rate_hz») false f0 a decay c in
-          after-kept (SyntheticSnareDrum.turn b) (λ s. s .voice .«sample_rate_hz») (λ s. refl) n _ ∙ begun-rate trigger
-      go (suc m) = refl
+abbrev syntheticRate : Noisy SyntheticSnare → Float
+syntheticRate s = s .voice .«sample_rate_hz»
 
-hihat-rate : (v : HihatVoice) (noise : ℕ) (trigger : Bool) (accent f0 a decay c : Float) (n : ℕ)
-    → hihat.render v noise false trigger accent f0 a decay c n Swing true false .«sample_rate» ≡ v .«sample_rate»
-hihat-rate v noise trigger accent f0 a decay c n = go (hihat.renderRefusal (v .«sample_rate») n accent f0 a decay c)
+synthetic-rate : (s : Noisy SyntheticSnare) (trigger : Bool) (k : SyntheticSnareKnobs) (out : List Float)
+    → syntheticRate (SyntheticSnareDrum.render s trigger k out .state) ≡ syntheticRate s
+unfolding SyntheticSnareDrum.tuned SyntheticSnareDrum.triggered SyntheticSnareDrum.step
+synthetic-rate s trigger k out =
+    let n = List.length out in
+    let b = SyntheticSnareDrum.settings (s .voice) k n in
+    let voice = SyntheticSnareDrum.tuned (s .voice) b in
+    let start = noisy (cond trigger (SyntheticSnareDrum.triggered voice (k .accent) (k .decay)) voice) (s .noise) in
+    kept syntheticRate (SyntheticSnareDrum.renderRefusal (syntheticRate s) k n) (after (SyntheticSnareDrum.step b n) n start) s
+    (after-keeps (SyntheticSnareDrum.step b n) syntheticRate (λ t. refl) n start ∙ begun trigger)
   where
-    go : (m : ℕ) → unlessRefused m (hihat.ended v (hihat.end v noise false trigger accent f0 a decay c n Swing true false)) v .«sample_rate» ≡ v .«sample_rate»
-    go zero = refl
-    go (suc m) = refl
+    begun : (t : Bool) → let v = SyntheticSnareDrum.tuned (s .voice) (SyntheticSnareDrum.settings (s .voice) k (List.length out)) in
+        cond t (SyntheticSnareDrum.triggered v (k .accent) (k .decay)) v .«sample_rate_hz» ≡ syntheticRate s
+    begun true = refl
+    begun false = refl
+
+abbrev hihatRate : Noisy HihatVoice → Float
+hihatRate s = s .voice .«sample_rate»
+
+passes-rate : (v : HihatVoice) (k : HihatKnobs) (n : ℕ) (p : PassedBlock (Noisy HihatVoice))
+    → hihatRate (hihat.passes (hihat.settings v Swing k n) p .state) ≡ hihatRate (p .state)
+unfolding hihat.passes hihat.metallic hihat.setColoration hihat.colored hihat.clocked hihat.vca hihat.setHpf hihat.highPassed
+passes-rate v k n p =
+    scanned-keeps _ hihatRate (λ s x. refl) _ _ ∙ scanned-keeps _ hihatRate (λ s x. refl) _ _ ∙ scanned-keeps _ hihatRate (λ s x. refl) _ _
+    ∙ scanned-keeps _ hihatRate (λ s x. refl) _ _ ∙ after-keeps _ hihatRate (λ s. refl) (List.length (p .out)) (p .state)
+
+hihat-rate : (s : Noisy HihatVoice) (trigger : Bool) (k : HihatKnobs) (out : List Float)
+    → hihatRate (hihat.render s trigger Swing k out .state) ≡ hihatRate s
+unfolding hihat.triggered
+hihat-rate s trigger k out =
+    let n = List.length out in
+    let start : PassedBlock (Noisy HihatVoice) = record { state = noisy (cond trigger (hihat.triggered (s .voice) k) (s .voice)) (s .noise); out = out } in
+    kept hihatRate (hihat.renderRefusal (hihatRate s) k n) (hihat.passes (hihat.settings (s .voice) Swing k n) start .state) s
+    (passes-rate (s .voice) k n start ∙ begun trigger)
+  where
+    begun : (t : Bool) → cond t (hihat.triggered (s .voice) k) (s .voice) .«sample_rate» ≡ hihatRate s
+    begun true = refl
+    begun false = refl
 
 -- ---- a kit that no voice of it refuses
 record Ready (k : Kit) : Type 0 where
@@ -92,15 +116,18 @@ unfolding isUnit within le round
 zero-unit = refl
 
 ready-accepted : (k : Kit) (n : ℕ) → n ≤ 16384 → Ready k → SegmentAccepted k n
-unfolding AnalogBassDrum.renderRefusal AnalogSnareDrum.renderRefusal SyntheticSnareDrum.renderRefusal hihat.renderRefusal
+unfolding bassCall snareCall syntheticSnareCall hihatCall ofBass AnalogBassDrum.renderRefusal AnalogSnareDrum.renderRefusal SyntheticSnareDrum.renderRefusal hihat.renderRefusal
 ready-accepted k n short r =
     let size = le-leb n 16384 short in
     record {
-      bass = λ struck. let q = r .bass struck in rw (size, q .frequency, q .accent-in, q .a-in, q .c-in, zero-unit, q .decay-in);
-      snare = λ struck. let q = r .snare struck in rw (size, q .frequency, q .accent-in, q .a-in, q .decay-in, q .c-in);
+      bass = λ struck. let q = r .bass struck in rw (silence-length n, size, q .frequency, q .accent-in, q .a-in, q .decay-in, q .c-in, zero-unit);
+      snare = λ struck noise. let q = r .snare struck in rw (silence-length n, size, q .frequency, q .accent-in, q .a-in, q .decay-in, q .c-in);
       synthetic-snare =
-          λ struck. let q = r .synthetic-snare struck in rw (r .synthetic-rate, size, q .frequency, q .accent-in, q .a-in, q .decay-in, q .c-in);
-      hihat = λ struck. let q = r .hihat struck in rw (r .hihat-rate, size, q .frequency, q .accent-in, q .a-in, q .decay-in, q .c-in);
+          λ struck noise. let q = r .synthetic-snare struck in
+          rw (silence-length n, r .synthetic-rate, size, q .frequency, q .accent-in, q .a-in, q .decay-in, q .c-in);
+      hihat =
+          λ struck noise. let q = r .hihat struck in
+          rw (silence-length n, r .hihat-rate, size, q .frequency, q .accent-in, q .a-in, q .decay-in, q .c-in);
     }
 
 -- ---- it starts so, and stays so
@@ -131,12 +158,10 @@ either P true x y p q = p
 either P false x y p q = q
 
 segment-ready : (k : Kit) (n : ℕ) → Ready k → Ready (afterSegment k n)
-unfolding afterSegment bassAfter snareAfter syntheticSnareAfter hihatAfter
+unfolding afterSegment bassAfter snareAfter syntheticSnareAfter hihatAfter syntheticSnareCall hihatCall
 segment-ready k n r =
     let y = k .«synthetic_snare» .playing in
     let h = k .hihat .playing in
-    let y-rate = synthetic-rate (k .«synthetic_snare» .voice) _ (y .knobs .accent) (y .knobs .f0) (y .knobs .a) (y .knobs .decay) (y .knobs .c) n (y .trigger) in
-    let h-rate = hihat-rate (k .hihat .voice) _ (h .trigger) (h .knobs .accent) (h .knobs .f0) (h .knobs .a) (h .knobs .decay) (h .knobs .c) n in
     record {
       bass = either (λ (p : BassPart). Passed isBassDecay (p .playing)) (k .bass .playing .struck) _ _ (r .bass) (r .bass);
       snare = either (λ (p : SnarePlayed). Passed isUnit (p .part .playing)) (k .snare .playing .struck) _ _ (r .snare) (r .snare);
@@ -144,10 +169,10 @@ segment-ready k n r =
       hihat = either (λ (p : HihatPlayed). Passed isUnit (p .part .playing)) (h .struck) _ _ (r .hihat) (r .hihat);
       synthetic-rate =
           either (λ (p : SyntheticSnarePlayed). isSampleRate (p .part .voice .«sample_rate_hz») ≡ true) (y .struck) _ _
-          (ap isSampleRate y-rate ∙ r .synthetic-rate) (r .synthetic-rate);
+          (ap isSampleRate (synthetic-rate _ (y .trigger) _ (silence n)) ∙ r .synthetic-rate) (r .synthetic-rate);
       hihat-rate =
           either (λ (p : HihatPlayed). isSampleRate (p .part .voice .«sample_rate») ≡ true) (h .struck) _ _
-          (ap isSampleRate h-rate ∙ r .hihat-rate) (r .hihat-rate);
+          (ap isSampleRate (hihat-rate _ (h .trigger) _ (silence n)) ∙ r .hihat-rate) (r .hihat-rate);
     }
 
 -- ---- the sheet

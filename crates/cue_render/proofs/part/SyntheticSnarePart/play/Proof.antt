@@ -1,29 +1,31 @@
 -- A part that is not struck stays as it is; else what it renders into the cleared scratch is added to the segment.
+use borrow.Author.Needs.{needs}
 use borrow.Author.Tests.{not-true, not-false}
 use mathlib.Core.Path.{refl}
-use Rattle.cue_render.specs.Part.{syntheticSnareInto, syntheticSnareAfter}
+use Rattle.cue_render.specs.Part.{into, syntheticSnareCall, syntheticSnareAfter}
 use Rattle.cue_render.proofs.Fill.{cleared-scratch}
-use borrow.Author.Needs.{needs}
 use Rattle.cue_render.proofs.part.SyntheticSnarePart.play.Statement.{statement}
 use Rattle.cue_render.proofs.part.SyntheticSnarePart.play.Tie as tie
 
 returns-2 : tie.Need-returns-2
-unfolding syntheticSnareInto syntheticSnareAfter
+unfolding into syntheticSnareCall syntheticSnareAfter
 returns-2 c =
     let added = c .before .before .before .before in
     let rendered = added .before .before .before .before .before in
-    let cleared = rendered .before .before .before .before in
+    let knobs = rendered .before .before in
+    let cleared = knobs .before .before .before in
     let test = cleared .before .before .before in
     let start = test .before .before .before .before .before in
     let struck = not-false (start .args .self .playing .struck) (test .if1 .left) in
     let scratch = cleared-scratch _ _ _ (start .pre) (cleared .clear .ensures) in
-    let render = rendered .render in
-    (rw (c .held .ensures, render .ensures .1 .0, render .ensures .1 .1 .0, scratch .1, struck), rw (added .add-to .ensures, render .ensures .1 .1 .1, scratch .0, struck))
+    let render = rw (knobs .of-synthetic-snare .ensures, scratch) at (rendered .render .ensures) in
+    (rw (c .held .ensures, render .1 .0, render .1 .1 .0, struck), rw (added .add-to .ensures, render .1 .1 .1, struck))
 
 pub play-spec : {M : Type 1} → statement M
-unfolding syntheticSnareInto syntheticSnareAfter
+unfolding into syntheticSnareAfter
 play-spec =
     tie.close
     (tie.spec
     (λ c. let start = c .before .before .before .before .before in rw (not-true (start .args .self .playing .struck) (c .if1 .taken)) (refl, refl))
-    (λ c κs. search needs) (λ c κs. search needs) (λ c κs. search needs) (λ c κs. search needs) (λ c. search needs) (λ c. search needs) returns-2)
+    (λ c κs. search needs) (λ c κs. search needs) (λ c κs. search needs) (λ c κs. search needs) (λ c κs. search needs) (λ c. search needs) (λ c. search needs)
+    returns-2)

@@ -330,6 +330,15 @@ typedef struct bechullpi_analog_bass_drum_answered {
 } bechullpi_analog_bass_drum_answered;
 BECHULLPI_STATIC_ASSERT(sizeof(bechullpi_analog_bass_drum_answered) == 80, "bechullpi_analog_bass_drum_answered");
 
+typedef struct bechullpi_analog_bass_drum_knobs {
+    float f0;
+    float tone;
+    float decay;
+    float attack_fm_amount;
+    float self_fm_amount;
+} bechullpi_analog_bass_drum_knobs;
+BECHULLPI_STATIC_ASSERT(sizeof(bechullpi_analog_bass_drum_knobs) == 20, "bechullpi_analog_bass_drum_knobs");
+
 // Every field zero, for `init` to overwrite.
 bechullpi_analog_bass_drum bechullpi_analog_bass_drum_zero(void);
 
@@ -338,8 +347,8 @@ bechullpi_analog_bass_drum_answered bechullpi_analog_bass_drum_init(bechullpi_an
 
 // Refused by 2, 3, 4 and 5.
 bechullpi_analog_bass_drum_answered bechullpi_analog_bass_drum_render(
-    bechullpi_analog_bass_drum voice, bool trigger, float accent, float f0, float tone, float decay, float attack_fm_amount,
-    float self_fm_amount, float *out, size_t out_length
+    bechullpi_analog_bass_drum voice, bool trigger, float accent, bechullpi_analog_bass_drum_knobs knobs,
+    float *out, size_t out_length
 );
 
 // -------------------------------------------------------------------------------------------------------------------------------
@@ -373,6 +382,14 @@ typedef struct bechullpi_analog_snare_drum_rendered {
 } bechullpi_analog_snare_drum_rendered;
 BECHULLPI_STATIC_ASSERT(sizeof(bechullpi_analog_snare_drum_rendered) == 156, "bechullpi_analog_snare_drum_rendered");
 
+typedef struct bechullpi_analog_snare_drum_knobs {
+    float f0;
+    float tone;
+    float decay;
+    float snappy;
+} bechullpi_analog_snare_drum_knobs;
+BECHULLPI_STATIC_ASSERT(sizeof(bechullpi_analog_snare_drum_knobs) == 16, "bechullpi_analog_snare_drum_knobs");
+
 // Every field zero, for `init` to overwrite.
 bechullpi_analog_snare_drum bechullpi_analog_snare_drum_zero(void);
 
@@ -381,8 +398,8 @@ bechullpi_analog_snare_drum_answered bechullpi_analog_snare_drum_init(bechullpi_
 
 // Refused by 2, 3, 4 and 5.
 bechullpi_analog_snare_drum_rendered bechullpi_analog_snare_drum_render(
-    bechullpi_analog_snare_drum voice, uint32_t noise, bool trigger, float accent, float f0, float tone, float decay,
-    float snappy, float *out, size_t out_length
+    bechullpi_analog_snare_drum voice, uint32_t noise, bool trigger, float accent, bechullpi_analog_snare_drum_knobs knobs,
+    float *out, size_t out_length
 );
 
 // -------------------------------------------------------------------------------------------------------------------------------
@@ -417,6 +434,23 @@ typedef struct bechullpi_synthetic_snare_drum_rendered {
 } bechullpi_synthetic_snare_drum_rendered;
 BECHULLPI_STATIC_ASSERT(sizeof(bechullpi_synthetic_snare_drum_rendered) == 84, "bechullpi_synthetic_snare_drum_rendered");
 
+// The parameters of a block.
+typedef struct bechullpi_synthetic_snare_drum_knobs {
+    bool sustain;
+    float accent;
+    float f0;
+    float fm_amount;
+    float decay;
+    float snappy;
+} bechullpi_synthetic_snare_drum_knobs;
+BECHULLPI_STATIC_ASSERT(sizeof(bechullpi_synthetic_snare_drum_knobs) == 24, "bechullpi_synthetic_snare_drum_knobs");
+BECHULLPI_STATIC_ASSERT(offsetof(bechullpi_synthetic_snare_drum_knobs, sustain) == 0, "bechullpi_synthetic_snare_drum_knobs.sustain");
+BECHULLPI_STATIC_ASSERT(offsetof(bechullpi_synthetic_snare_drum_knobs, accent) == 4, "bechullpi_synthetic_snare_drum_knobs.accent");
+BECHULLPI_STATIC_ASSERT(offsetof(bechullpi_synthetic_snare_drum_knobs, f0) == 8, "bechullpi_synthetic_snare_drum_knobs.f0");
+BECHULLPI_STATIC_ASSERT(offsetof(bechullpi_synthetic_snare_drum_knobs, fm_amount) == 12, "bechullpi_synthetic_snare_drum_knobs.fm_amount");
+BECHULLPI_STATIC_ASSERT(offsetof(bechullpi_synthetic_snare_drum_knobs, decay) == 16, "bechullpi_synthetic_snare_drum_knobs.decay");
+BECHULLPI_STATIC_ASSERT(offsetof(bechullpi_synthetic_snare_drum_knobs, snappy) == 20, "bechullpi_synthetic_snare_drum_knobs.snappy");
+
 // Every field zero, for `init` to overwrite.
 bechullpi_synthetic_snare_drum bechullpi_synthetic_snare_drum_zero(void);
 
@@ -427,8 +461,8 @@ bechullpi_synthetic_snare_drum_answered bechullpi_synthetic_snare_drum_init(
 
 // Refused by 1, of the rate that the voice stores, 2, 3, 4 and 5.
 bechullpi_synthetic_snare_drum_rendered bechullpi_synthetic_snare_drum_render(
-    bechullpi_synthetic_snare_drum voice, uint32_t noise, bool sustain, bool trigger, float accent, float f0, float fm_amount,
-    float decay, float snappy, float *out, size_t out_length
+    bechullpi_synthetic_snare_drum voice, uint32_t noise, bool trigger, bechullpi_synthetic_snare_drum_knobs knobs,
+    float *out, size_t out_length
 );
 
 // -------------------------------------------------------------------------------------------------------------------------------
@@ -466,6 +500,27 @@ typedef struct bechullpi_hihat_rendered {
 } bechullpi_hihat_rendered;
 BECHULLPI_STATIC_ASSERT(sizeof(bechullpi_hihat_rendered) == 92, "bechullpi_hihat_rendered");
 
+// The parameters of `render`, but for the trigger and the kind of the VCA.
+typedef struct bechullpi_hihat_knobs {
+    bool sustain;
+    float accent;
+    float f0;
+    float tone;
+    float decay;
+    float noisiness;
+    bool resonance;
+    bool two_stage_envelope;
+} bechullpi_hihat_knobs;
+BECHULLPI_STATIC_ASSERT(sizeof(bechullpi_hihat_knobs) == 28, "bechullpi_hihat_knobs");
+BECHULLPI_STATIC_ASSERT(offsetof(bechullpi_hihat_knobs, sustain) == 0, "bechullpi_hihat_knobs.sustain");
+BECHULLPI_STATIC_ASSERT(offsetof(bechullpi_hihat_knobs, accent) == 4, "bechullpi_hihat_knobs.accent");
+BECHULLPI_STATIC_ASSERT(offsetof(bechullpi_hihat_knobs, f0) == 8, "bechullpi_hihat_knobs.f0");
+BECHULLPI_STATIC_ASSERT(offsetof(bechullpi_hihat_knobs, tone) == 12, "bechullpi_hihat_knobs.tone");
+BECHULLPI_STATIC_ASSERT(offsetof(bechullpi_hihat_knobs, decay) == 16, "bechullpi_hihat_knobs.decay");
+BECHULLPI_STATIC_ASSERT(offsetof(bechullpi_hihat_knobs, noisiness) == 20, "bechullpi_hihat_knobs.noisiness");
+BECHULLPI_STATIC_ASSERT(offsetof(bechullpi_hihat_knobs, resonance) == 24, "bechullpi_hihat_knobs.resonance");
+BECHULLPI_STATIC_ASSERT(offsetof(bechullpi_hihat_knobs, two_stage_envelope) == 25, "bechullpi_hihat_knobs.two_stage_envelope");
+
 // Every field zero, for `init` to overwrite.
 bechullpi_hihat bechullpi_hihat_zero(void);
 
@@ -474,8 +529,7 @@ bechullpi_hihat_answered bechullpi_hihat_init(bechullpi_hihat voice, float sampl
 
 // Refused by 1, of the rate that the voice stores, 2, 3, 4 and 5. The VCA is the swing one unless `linear` is set.
 bechullpi_hihat_rendered bechullpi_hihat_render(
-    bechullpi_hihat voice, uint32_t noise, bool sustain, bool trigger, float accent, float f0, float tone, float decay,
-    float noisiness, float *out, size_t out_length, bool linear, bool resonance, bool two_stage_envelope
+    bechullpi_hihat voice, uint32_t noise, bool trigger, bool linear, bechullpi_hihat_knobs knobs, float *out, size_t out_length
 );
 
 bechullpi_square_noise bechullpi_hihat_square_noise_zero(void);

@@ -10,7 +10,6 @@ use filter::FilterMode;
 use filter::FrequencyApproximation;
 use filter::Svf;
 use refusal::Answer;
-use refusal::Refusal;
 use trigger_pulse::TriggerPulse;
 
 #[repr(C)]
@@ -101,16 +100,16 @@ impl AnalogBassDrum {
         ensures number { λ r. ⌜ answerNumber (r .answer) ≡ spec.init self «sample_rate_hz» .number ⌝ }
         ensures voice { λ r. ⌜ r .voice ≡ spec.init self «sample_rate_hz» .state ⌝ }
     {
-        if refusal::is_sample_rate(sample_rate_hz) {
-            let voice = self.initialized(sample_rate_hz);
-            return Answered {
-                answer: Answer::Accepted,
-                voice,
-            };
-        }
-        Answered {
-            answer: Answer::Refused(Refusal::SampleRate),
-            voice: self,
+        let answer = refusal::ask_sample_rate(sample_rate_hz, Answer::Accepted);
+        match answer {
+            Answer::Refused(_) => Answered {
+                answer,
+                voice: self,
+            },
+            Answer::Accepted => {
+                let voice = self.initialized(sample_rate_hz);
+                Answered { answer, voice }
+            }
         }
     }
 

@@ -33,32 +33,28 @@ filterOf resonator i = getD resonator i (record { g = nan; r = nan; h = nan; sta
 
 -- ---- init
 
-unfoldable pub ZERO : AnalogSnareDrum
-ZERO = record {
-  «pulse_remaining_samples» = 0;
-  pulse = decimal 0 0;
-  «pulse_height» = decimal 0 0;
-  «pulse_lp» = decimal 0 0;
-  «noise_envelope» = decimal 0 0;
-  resonator = modes (λ i. Filter.ZERO);
-  «noise_filter» = Filter.ZERO;
-  «trigger_pulse_duration» = 0;
-  «pulse_decay_time» = 0;
-}
-
-unfoldable pub initialized : AnalogSnareDrum → Float → AnalogSnareDrum
-initialized self «sample_rate_hz» =
+-- the voice with these filters and constants, every other field zero
+abbrev pub silent : List Svf → Svf → ℕ → ℕ → AnalogSnareDrum
+silent resonator «noise_filter» «trigger_pulse_duration» «pulse_decay_time» =
     record {
       «pulse_remaining_samples» = 0;
       pulse = decimal 0 0;
       «pulse_height» = decimal 0 0;
       «pulse_lp» = decimal 0 0;
       «noise_envelope» = decimal 0 0;
-      resonator = modes (λ i. Filter.init (filterOf (self .resonator) i));
-      «noise_filter» = Filter.init (self .«noise_filter»);
-      «trigger_pulse_duration» = toUnsigned 32 (decimal 1 3 ⊗ «sample_rate_hz»);
-      «pulse_decay_time» = toUnsigned 32 (decimal 1 4 ⊗ «sample_rate_hz»);
+      resonator = resonator;
+      «noise_filter» = «noise_filter»;
+      «trigger_pulse_duration» = «trigger_pulse_duration»;
+      «pulse_decay_time» = «pulse_decay_time»;
     }
+
+unfoldable pub ZERO : AnalogSnareDrum
+ZERO = silent (modes (λ i. Filter.ZERO)) Filter.ZERO 0 0
+
+unfoldable pub initialized : AnalogSnareDrum → Float → AnalogSnareDrum
+initialized self «sample_rate_hz» =
+    silent (modes (λ i. Filter.init (filterOf (self .resonator) i))) (Filter.init (self .«noise_filter»))
+    (toUnsigned 32 (decimal 1 3 ⊗ «sample_rate_hz»)) (toUnsigned 32 (decimal 1 4 ⊗ «sample_rate_hz»))
 
 abbrev pub init : AnalogSnareDrum → Float → Call AnalogSnareDrum
 init self «sample_rate_hz» = call (ask (isSampleRate «sample_rate_hz») 1 0) (initialized self «sample_rate_hz») [] self []

@@ -12,7 +12,6 @@ use filter::FilterMode;
 use filter::FrequencyApproximation;
 use filter::Svf;
 use refusal::Answer;
-use refusal::Refusal;
 use trigger_pulse::TriggerPulse;
 
 const MODE_FREQUENCIES: [f32; 5] = [1.00, 2.00, 3.18, 4.16, 5.62];
@@ -107,16 +106,16 @@ impl AnalogSnareDrum {
         ensures number { λ r. ⌜ answerNumber (r .answer) ≡ spec.init self «sample_rate_hz» .number ⌝ }
         ensures voice { λ r. ⌜ r .voice ≡ spec.init self «sample_rate_hz» .state ⌝ }
     {
-        if refusal::is_sample_rate(sample_rate_hz) {
-            let voice = self.initialized(sample_rate_hz);
-            return Answered {
-                answer: Answer::Accepted,
-                voice,
-            };
-        }
-        Answered {
-            answer: Answer::Refused(Refusal::SampleRate),
-            voice: self,
+        let answer = refusal::ask_sample_rate(sample_rate_hz, Answer::Accepted);
+        match answer {
+            Answer::Refused(_) => Answered {
+                answer,
+                voice: self,
+            },
+            Answer::Accepted => {
+                let voice = self.initialized(sample_rate_hz);
+                Answered { answer, voice }
+            }
         }
     }
 

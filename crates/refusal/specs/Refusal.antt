@@ -83,14 +83,3 @@ isUnit x = within (decimal 0 0) (decimal 1 0) x
 -- 5, of the bass's decay alone: a number from 0.0 to 2.0
 unfoldable pub isBassDecay : Float → Bool
 isBassDecay x = within (decimal 0 0) (decimal 2 0) x
-
--- 2 to 5: what every `render` asks of its block, of f0, of accent and of three more knobs
-abbrev pub askBlock : ℕ → Float → Float → Float → Float → Float → ℕ → ℕ
-askBlock samples f0 accent a b c next =
-    ask (isBlockLength samples) 2
-    (ask (isFrequency f0) 3
-    (ask (isUnit accent) 4
-    (ask (isUnit a) 5
-    (ask (isUnit b) 5
-    (ask (isUnit c) 5
-    next)))))

@@ -69,18 +69,6 @@ fn within(low: f32, high: f32, x: f32) -> bool
     low <= x && x <= high
 }
 
-pub fn is_sample_rate(x: f32) -> bool
-    ensures { λ r. ⌜ r ≡ spec.isSampleRate x ⌝ }
-{
-    within(16000.0, 96000.0, x)
-}
-
-pub fn is_block_length(samples: usize) -> bool
-    ensures { λ r. ⌜ r ≡ spec.isBlockLength samples ⌝ }
-{
-    samples <= 16384
-}
-
 // The smallest frequency is 2^-20, written out.
 pub fn is_frequency(f0: f32) -> bool
     ensures { λ r. ⌜ r ≡ spec.isFrequency f0 ⌝ }
@@ -106,7 +94,11 @@ pub fn is_bass_decay(x: f32) -> bool
 pub fn ask_sample_rate(sample_rate_hz: f32, next: Answer) -> Answer
     ensures { λ r. ⌜ spec.answerNumber r ≡ spec.ask (spec.isSampleRate «sample_rate_hz») 1 (spec.answerNumber next) ⌝ }
 {
-    ask(is_sample_rate(sample_rate_hz), Refusal::SampleRate, next)
+    ask(
+        within(16000.0, 96000.0, sample_rate_hz),
+        Refusal::SampleRate,
+        next,
+    )
 }
 
 pub fn ask_block_length(samples: usize, next: Answer) -> Answer
@@ -137,24 +129,4 @@ pub fn ask_bass_decay(decay: f32, next: Answer) -> Answer
     ensures { λ r. ⌜ spec.answerNumber r ≡ spec.ask (spec.isBassDecay decay) 5 (spec.answerNumber next) ⌝ }
 {
     ask(is_bass_decay(decay), Refusal::Knob, next)
-}
-
-// The questions 2 to 5, of the block's length, of f0, of accent and of three more knobs, and the answer of the questions after them.
-pub fn ask_block(
-    samples: usize,
-    f0: f32,
-    accent: f32,
-    a: f32,
-    b: f32,
-    c: f32,
-    next: Answer,
-) -> Answer
-    ensures { λ r. ⌜ spec.answerNumber r ≡ spec.askBlock samples f0 accent a b c (spec.answerNumber next) ⌝ }
-{
-    let last = ask(is_unit(c), Refusal::Knob, next);
-    let second = ask(is_unit(b), Refusal::Knob, last);
-    let knobs = ask(is_unit(a), Refusal::Knob, second);
-    let accents = ask(is_unit(accent), Refusal::Accent, knobs);
-    let frequencies = ask(is_frequency(f0), Refusal::Frequency, accents);
-    ask(is_block_length(samples), Refusal::BlockLength, frequencies)
 }

@@ -11,7 +11,8 @@ use Rattle.block.specs.Block.{Turn, samples, after}
 use Rattle.refusal.specs.Refusal.{Call, call, ask, isSampleRate, isBlockLength, isFrequency, isUnit, isBassDecay}
 use Rattle.units.specs.Units.{ratio}
 use Rattle.utils.specs.Utils.{onePole}
-use Rattle.filter.specs.Svf as Svf
+use Rattle.filter.specs.Svf as Filter
+use Rattle.filter.specs.declared.Svf.{Svf}
 use Rattle.filter.specs.declared.FilterMode.the-variants.{BandPass, LowPass}
 use Rattle.filter.specs.declared.FrequencyApproximation.the-variants.{Dirty}
 use Rattle.trigger_pulse.specs.TriggerPulse as TriggerPulse
@@ -21,27 +22,9 @@ use Rattle.analog_bass_drum.specs.declared.Settings.{Settings}
 
 -- ---- init
 
-unfoldable pub ZERO : AnalogBassDrum
-ZERO = record {
-  «pulse_remaining_samples» = 0;
-  «fm_pulse_remaining_samples» = 0;
-  pulse = decimal 0 0;
-  «pulse_height» = decimal 0 0;
-  «pulse_lp» = decimal 0 0;
-  «fm_pulse_lp» = decimal 0 0;
-  «retrig_pulse» = decimal 0 0;
-  «lp_out» = decimal 0 0;
-  «tone_lp» = decimal 0 0;
-  resonator = Svf.ZERO;
-  «trigger_pulse_duration» = 0;
-  «fm_pulse_duration» = 0;
-  «pulse_decay_time» = decimal 0 0;
-  «pulse_filter_time» = decimal 0 0;
-  «retrig_pulse_duration» = decimal 0 0;
-}
-
-unfoldable pub initialized : AnalogBassDrum → Float → AnalogBassDrum
-initialized self «sample_rate_hz» =
+-- the voice with this resonator and the constants of this rate, every other field zero
+abbrev pub silent : Svf → Float → AnalogBassDrum
+silent resonator «sample_rate_hz» =
     record {
       «pulse_remaining_samples» = 0;
       «fm_pulse_remaining_samples» = 0;
@@ -52,13 +35,20 @@ initialized self «sample_rate_hz» =
       «retrig_pulse» = decimal 0 0;
       «lp_out» = decimal 0 0;
       «tone_lp» = decimal 0 0;
-      resonator = Svf.init (self .resonator);
+      resonator = resonator;
       «trigger_pulse_duration» = toUnsigned 32 (decimal 1 3 ⊗ «sample_rate_hz»);
       «fm_pulse_duration» = toUnsigned 32 (decimal 6 3 ⊗ «sample_rate_hz»);
       «pulse_decay_time» = decimal 2 4 ⊗ «sample_rate_hz»;
       «pulse_filter_time» = decimal 1 4 ⊗ «sample_rate_hz»;
       «retrig_pulse_duration» = decimal 5 2 ⊗ «sample_rate_hz»;
     }
+
+-- at a rate of 0.0 the constants are zero too
+unfoldable pub ZERO : AnalogBassDrum
+ZERO = silent Filter.ZERO (decimal 0 0)
+
+unfoldable pub initialized : AnalogBassDrum → Float → AnalogBassDrum
+initialized self «sample_rate_hz» = silent (Filter.init (self .resonator)) «sample_rate_hz»
 
 abbrev pub init : AnalogBassDrum → Float → Call AnalogBassDrum
 init self «sample_rate_hz» = call (ask (isSampleRate «sample_rate_hz») 1 0) (initialized self «sample_rate_hz») [] self []
@@ -126,8 +116,8 @@ step b self =
     let «attack_fm» = «fm_pulse_lp» ⊗ decimal 17 1 ⊗ b .«attack_fm_amount» in
     let «self_fm» = punch ⊗ decimal 8 2 ⊗ b .«self_fm_amount» in
     let f = clamp (b .f0 ⊗ (decimal 1 0 ⊕ «attack_fm» ⊕ «self_fm»)) (decimal 0 0) (decimal 4 1) in
-    let tuned = Svf.setFQ (self .resonator) f (decimal 1 0 ⊕ b .q ⊗ f) Dirty in
-    let dual = Svf.processDual tuned ((pulse ⊖ «retrig_pulse» ⊗ decimal 2 1) ⊗ b .scale) BandPass LowPass in
+    let tuned = Filter.setFQ (self .resonator) f (decimal 1 0 ⊕ b .q ⊗ f) Dirty in
+    let dual = Filter.processDual tuned ((pulse ⊖ «retrig_pulse» ⊗ decimal 2 1) ⊗ b .scale) BandPass LowPass in
     let «resonator_out» = dual .out_1 in
     let «lp_out» = dual .out_2 in
     let «tone_lp» = onePole (self .«tone_lp») (pulse ⊗ b .«exciter_leak» ⊕ «resonator_out») (b .«tone_f») in

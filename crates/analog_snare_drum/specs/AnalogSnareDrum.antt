@@ -68,19 +68,13 @@ gains tone =
     (let t = tone ⊗ decimal 15 1 in
     decimal 15 1 ⊕ (decimal 1 0 ⊖ t) ⊗ (decimal 1 0 ⊖ t) ⊗ decimal 45 1
     ∷ decimal 2 0 ⊗ t ⊕ decimal 15 2
-    ∷ decimal 0 0
-    ∷ decimal 0 0
-    ∷ decimal 0 0
-    ∷ [])
+    ∷ decimal 0 0 ∷ decimal 0 0 ∷ decimal 0 0 ∷ [])
     (let t = (tone ⊖ decimal 666667 6) ⊗ decimal 3 0 in
     let t² = t ⊗ t in
     let t⁴ = t² ⊗ t² in
     decimal 15 1 ⊖ t ⊗ decimal 5 1
     ∷ decimal 215 2 ⊖ t ⊗ decimal 7 1
-    ∷ t
-    ∷ t²
-    ∷ t⁴
-    ∷ [])
+    ∷ t ∷ t² ∷ t⁴ ∷ [])
 
 -- the decay and the leak read the knob snappy as it is, all lines after them as it is clamped
 unfoldable pub settings : Knobs → Settings

@@ -12,8 +12,8 @@ use lib.Ieee.Order.{le-of-values}
 use lib.Ieee.Bits.{is-true}
 use borrow.Author.Tests.{le-leb}
 use Rattle.ieee754.specs.Single.{decimal}
-use Rattle.block.specs.Block.{after, Passed as PassedBlock}
-use Rattle.block.proofs.Blocks.{after-keeps, scanned-keeps}
+use Rattle.block.specs.Block.{after}
+use Rattle.block.proofs.Blocks.{after-keeps}
 use Rattle.refusal.specs.Refusal.{Noisy, noisy, isSampleRate, isUnit, isBassDecay, within, unlessRefused}
 use Rattle.analog_bass_drum.specs.AnalogBassDrum as AnalogBassDrum
 use Rattle.analog_snare_drum.specs.AnalogSnareDrum as AnalogSnareDrum
@@ -21,15 +21,14 @@ use Rattle.synthetic_snare_drum.specs.SyntheticSnareDrum as SyntheticSnareDrum
 use Rattle.synthetic_snare_drum.specs.declared.SyntheticSnareDrum.{SyntheticSnareDrum as SyntheticSnare}
 use Rattle.synthetic_snare_drum.specs.declared.Knobs.{Knobs as SyntheticSnareKnobs}
 use Rattle.hihat.specs.Hihat as hihat
-use Rattle.hihat.specs.declared.Hihat.{Hihat as HihatVoice}
-use Rattle.hihat.specs.declared.Knobs.{Knobs as HihatKnobs}
+use Rattle.hihat.proofs.Rate.{rate-kept}
 use Rattle.hihat.specs.declared.VcaType.the-variants.{Swing}
 use Rattle.cue_sheet.specs.Sheet.{accepted, Strike, judge, strikes}
 use Rattle.cue_sheet.specs.declared.Cue.{Cue}
 use Rattle.cue_sheet.specs.declared.Cue.the-variants.{Bass, Snare, SyntheticSnare as Synthetic, Hihat}
 use Rattle.cue_sheet.proofs.Questions.{KnobsIn, KnobsOf}
 use Rattle.cue_render.specs.Part.{knobsOf, ofBass, bassCall, bassAfter, snareCall, snareAfter, syntheticSnareCall, syntheticSnareAfter, hihatCall, hihatAfter}
-use Rattle.cue_render.specs.Kit.{unstruck, start, afterSegment, strike}
+use Rattle.cue_render.specs.Kit.{unstruck, start, afterSegment, strike, struck}
 use Rattle.cue_render.specs.Calls.{StartAccepted, SegmentAccepted, SegmentsAccepted}
 use Rattle.cue_render.specs.declared.part.Playing.{Playing}
 use Rattle.cue_render.specs.declared.part.BassPart.{BassPart}
@@ -79,29 +78,6 @@ synthetic-rate s trigger k out =
     begun true = refl
     begun false = refl
 
-abbrev hihatRate : Noisy HihatVoice → Float
-hihatRate s = s .voice .«sample_rate»
-
-passes-rate : (v : HihatVoice) (k : HihatKnobs) (n : ℕ) (p : PassedBlock (Noisy HihatVoice))
-    → hihatRate (hihat.passes (hihat.settings v Swing k n) p .state) ≡ hihatRate (p .state)
-unfolding hihat.passes hihat.metallic hihat.setColoration hihat.colored hihat.clocked hihat.vca hihat.setHpf hihat.highPassed
-passes-rate v k n p =
-    scanned-keeps _ hihatRate (λ s x. refl) _ _ ∙ scanned-keeps _ hihatRate (λ s x. refl) _ _ ∙ scanned-keeps _ hihatRate (λ s x. refl) _ _
-    ∙ scanned-keeps _ hihatRate (λ s x. refl) _ _ ∙ after-keeps _ hihatRate (λ s. refl) (List.length (p .out)) (p .state)
-
-hihat-rate : (s : Noisy HihatVoice) (trigger : Bool) (k : HihatKnobs) (out : List Float)
-    → hihatRate (hihat.render s trigger Swing k out .state) ≡ hihatRate s
-unfolding hihat.triggered
-hihat-rate s trigger k out =
-    let n = List.length out in
-    let start : PassedBlock (Noisy HihatVoice) = record { state = noisy (cond trigger (hihat.triggered (s .voice) k) (s .voice)) (s .noise); out = out } in
-    kept hihatRate (hihat.renderRefusal (hihatRate s) k n) (hihat.passes (hihat.settings (s .voice) Swing k n) start .state) s
-    (passes-rate (s .voice) k n start ∙ begun trigger)
-  where
-    begun : (t : Bool) → cond t (hihat.triggered (s .voice) k) (s .voice) .«sample_rate» ≡ hihatRate s
-    begun true = refl
-    begun false = refl
-
 -- ---- a kit that no voice of it refuses
 record Ready (k : Kit) : Type 0 where
   bass : Passed isBassDecay (k .bass .playing)
@@ -143,7 +119,7 @@ start-ready rate h = record {
 }
 
 strike-ready : (k : Kit) (cue : Cue) → KnobsOf cue → Ready k → Ready (strike k cue)
-unfolding strike knobsOf
+unfolding strike struck knobsOf
 strike-ready k (Bass accent f0 tone decay attackFmAmount) knobs r =
     record { bass = λ struck. knobs; snare = r .snare; synthetic-snare = r .synthetic-snare; hihat = r .hihat; synthetic-rate = r .synthetic-rate; hihat-rate = r .hihat-rate }
 strike-ready k (Snare accent f0 tone decay snappy) knobs r =
@@ -172,7 +148,7 @@ segment-ready k n r =
           (ap isSampleRate (synthetic-rate _ (y .trigger) _ (silence n)) ∙ r .synthetic-rate) (r .synthetic-rate);
       hihat-rate =
           either (λ (p : HihatPlayed). isSampleRate (p .part .voice .«sample_rate») ≡ true) (h .struck) _ _
-          (ap isSampleRate (hihat-rate _ (h .trigger) _ (silence n)) ∙ r .hihat-rate) (r .hihat-rate);
+          (ap isSampleRate (rate-kept _ (h .trigger) Swing _ (silence n)) ∙ r .hihat-rate) (r .hihat-rate);
     }
 
 -- ---- the sheet

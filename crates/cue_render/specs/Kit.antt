@@ -15,6 +15,10 @@ use Rattle.cue_sheet.specs.declared.Cue.the-variants.{Bass, Snare, SyntheticSna
 use Rattle.cue_render.specs.Part as Part
 use Rattle.cue_render.specs.Part.{knobsOf, into, bassCall, bassAfter, snareCall, snareAfter, syntheticSnareCall, syntheticSnareAfter, hihatCall, hihatAfter}
 use Rattle.cue_render.specs.declared.part.Playing.{Playing}
+use Rattle.cue_render.specs.declared.part.BassPart.{BassPart}
+use Rattle.cue_render.specs.declared.part.SnarePart.{SnarePart}
+use Rattle.cue_render.specs.declared.part.SyntheticSnarePart.{SyntheticSnarePart}
+use Rattle.cue_render.specs.declared.part.HihatPart.{HihatPart}
 use Rattle.cue_render.specs.declared.kit.Kit.{Kit}
 
 -- ---- the start: all voices from init, none of them struck, and the noise state at 33
@@ -25,17 +29,18 @@ unstruck = record {
   knobs = record { accent = decimal 0 0; f0 = decimal 0 0; a = decimal 0 0; decay = decimal 0 0; c = decimal 0 0 };
 }
 
+abbrev pub kit : BassPart → SnarePart → SyntheticSnarePart → HihatPart → ℕ → Kit
+kit b s y h noise = record { bass = b; snare = s; «synthetic_snare» = y; hihat = h; noise = noise }
+
 -- the sample rate is the f32 nearest to the sheet's
 unfoldable pub start : ℕ → Kit
 start rate =
     let sampleRate = ofInt binary32 (pos rate) in
-    record {
-      bass = record { voice = AnalogBassDrum.init AnalogBassDrum.ZERO sampleRate .state; playing = unstruck };
-      snare = record { voice = AnalogSnareDrum.init AnalogSnareDrum.ZERO sampleRate .state; playing = unstruck };
-      «synthetic_snare» = record { voice = SyntheticSnareDrum.init SyntheticSnareDrum.ZERO sampleRate .state; playing = unstruck };
-      hihat = record { voice = hihat.init hihat.ZERO sampleRate .state; playing = unstruck };
-      noise = 33;
-    }
+    kit (record { voice = AnalogBassDrum.init AnalogBassDrum.ZERO sampleRate .state; playing = unstruck })
+    (record { voice = AnalogSnareDrum.init AnalogSnareDrum.ZERO sampleRate .state; playing = unstruck })
+    (record { voice = SyntheticSnareDrum.init SyntheticSnareDrum.ZERO sampleRate .state; playing = unstruck })
+    (record { voice = hihat.init hihat.ZERO sampleRate .state; playing = unstruck })
+    33
 
 -- ---- a segment of n samples: each is 0.0 plus the struck voices in the order b, s, y, h, and the noise state passes from one to the next
 unfoldable pub segment : Kit → ℕ → List Float
@@ -53,39 +58,18 @@ afterSegment k n =
     let s = snareAfter (k .snare) (k .noise) n in
     let y = syntheticSnareAfter (k .«synthetic_snare») (s .noise) n in
     let h = hihatAfter (k .hihat) (y .noise) n in
-    record { bass = bassAfter (k .bass) n; snare = s .part; «synthetic_snare» = y .part; hihat = h .part; noise = h .noise }
+    kit (bassAfter (k .bass) n) (s .part) (y .part) (h .part) (h .noise)
 
--- ---- the kit with the voice of a cue struck
+-- ---- the kit with the voice of a cue struck; the other parts go on as they are
+unfoldable pub struck : Kit → Playing → Cue → Kit
+struck k p (Bass accent f0 tone decay attackFmAmount) =
+    kit (record { voice = k .bass .voice; playing = p }) (k .snare) (k .«synthetic_snare») (k .hihat) (k .noise)
+struck k p (Snare accent f0 tone decay snappy) =
+    kit (k .bass) (record { voice = k .snare .voice; playing = p }) (k .«synthetic_snare») (k .hihat) (k .noise)
+struck k p (SyntheticSnare accent f0 fmAmount decay snappy) =
+    kit (k .bass) (k .snare) (record { voice = k .«synthetic_snare» .voice; playing = p }) (k .hihat) (k .noise)
+struck k p (Hihat accent f0 tone decay noisiness) =
+    kit (k .bass) (k .snare) (k .«synthetic_snare») (record { voice = k .hihat .voice; playing = p }) (k .noise)
+
 unfoldable pub strike : Kit → Cue → Kit
-strike k (Bass accent f0 a decay c) =
-    record {
-      bass = record { voice = k .bass .voice; playing = Part.strike (knobsOf (Bass accent f0 a decay c)) };
-      snare = k .snare;
-      «synthetic_snare» = k .«synthetic_snare»;
-      hihat = k .hihat;
-      noise = k .noise;
-    }
-strike k (Snare accent f0 a decay c) =
-    record {
-      bass = k .bass;
-      snare = record { voice = k .snare .voice; playing = Part.strike (knobsOf (Snare accent f0 a decay c)) };
-      «synthetic_snare» = k .«synthetic_snare»;
-      hihat = k .hihat;
-      noise = k .noise;
-    }
-strike k (SyntheticSnare accent f0 a decay c) =
-    record {
-      bass = k .bass;
-      snare = k .snare;
-      «synthetic_snare» = record { voice = k .«synthetic_snare» .voice; playing = Part.strike (knobsOf (SyntheticSnare accent f0 a decay c)) };
-      hihat = k .hihat;
-      noise = k .noise;
-    }
-strike k (Hihat accent f0 a decay c) =
-    record {
-      bass = k .bass;
-      snare = k .snare;
-      «synthetic_snare» = k .«synthetic_snare»;
-      hihat = record { voice = k .hihat .voice; playing = Part.strike (knobsOf (Hihat accent f0 a decay c)) };
-      noise = k .noise;
-    }
+strike k cue = struck k (Part.strike (knobsOf cue)) cue

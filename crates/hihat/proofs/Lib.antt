@@ -1,2 +1,3 @@
 -- The laws of `hihat` beside the proofs of its functions.
 mod OnePass
+pub mod Rate

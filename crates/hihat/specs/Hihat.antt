@@ -25,20 +25,9 @@ use Rattle.hihat.specs.SquareNoise as SquareNoise
 
 -- ---- init
 
-unfoldable pub ZERO : Hihat
-ZERO = record {
-  «sample_rate» = decimal 0 0;
-  envelope = decimal 0 0;
-  «noise_clock» = decimal 0 0;
-  «noise_sample» = decimal 0 0;
-  «sustain_gain» = decimal 0 0;
-  «square_noise» = SquareNoise.init;
-  «noise_coloration_svf» = Svf.ZERO;
-  hpf = Svf.ZERO;
-}
-
-unfoldable pub initialized : Hihat → Float → Hihat
-initialized self «sample_rate» =
+-- the voice of this rate and with these filters, every other field zero
+abbrev pub silent : Float → Filter → Filter → Hihat
+silent «sample_rate» «noise_coloration_svf» hpf =
     record {
       «sample_rate» = «sample_rate»;
       envelope = decimal 0 0;
@@ -46,16 +35,21 @@ initialized self «sample_rate» =
       «noise_sample» = decimal 0 0;
       «sustain_gain» = decimal 0 0;
       «square_noise» = SquareNoise.init;
-      «noise_coloration_svf» = Svf.init (self .«noise_coloration_svf»);
-      hpf = Svf.init (self .hpf);
+      «noise_coloration_svf» = «noise_coloration_svf»;
+      hpf = hpf;
     }
+
+unfoldable pub ZERO : Hihat
+ZERO = silent (decimal 0 0) Svf.ZERO Svf.ZERO
+
+unfoldable pub initialized : Hihat → Float → Hihat
+initialized self «sample_rate» = silent «sample_rate» (Svf.init (self .«noise_coloration_svf»)) (Svf.init (self .hpf))
 
 abbrev pub init : Hihat → Float → Call Hihat
 init self «sample_rate» = call (ask (isSampleRate «sample_rate») 1 0) (initialized self «sample_rate») [] self []
 
 -- ---- render: what stays the same over the block, and the trigger
 
--- `sustain_gain` steps by the increment of its interpolator
 unfoldable pub settings : Hihat → VcaType → Knobs → ℕ → Settings
 settings self «vca_type» k samples =
     -- `noisiness *= noisiness;`
@@ -65,11 +59,13 @@ settings self «vca_type» k samples =
       «cut_decay» = decimal 1 0 ⊖ decimal 25 4 ⊗ ratio (neg (k .decay) ⊗ decimal 36 0);
       -- `self.square_noise.render(2.0 * f0, out);`
       increment = SquareNoise.increments (decimal 2 0 ⊗ k .f0);
+      -- `cutoff = cutoff.clamp(0.0, 16000.0 / self.sample_rate);`
       cutoff = clamp (decimal 150 0 ⊘ self .«sample_rate» ⊗ ratio (k .tone ⊗ decimal 72 0)) (decimal 0 0) (decimal 16000 0 ⊘ self .«sample_rate»);
       -- `if resonance { 3.0 + 3.0 * tone } else { 1.0 },`
       q = cond (k .resonance) (decimal 3 0 ⊕ decimal 3 0 ⊗ k .tone) (decimal 1 0);
       noisiness = noisiness;
       «noise_f» = clamp (k .f0 ⊗ (decimal 16 0 ⊕ decimal 16 0 ⊗ (decimal 1 0 ⊖ noisiness))) (decimal 0 0) (decimal 5 1);
+      -- `ParameterInterpolator::new(&mut self.sustain_gain, accent * decay, out.len());`: its value is the field itself
       «gain_increment» = ParameterInterpolator.new (self .«sustain_gain») (k .accent ⊗ k .decay) samples .increment;
       sustain = k .sustain;
       «vca_type» = «vca_type»;
@@ -158,9 +154,9 @@ unfoldable pub amplify : VcaType → Float → Float → Float
 amplify Swing s gain = swingVca s gain
 amplify Linear s gain = linearVca s gain
 
--- `sustain_gain.next()` in a sustained block only; what it returns is the value that the interpolator's `Drop` stores
-unfoldable pub vca : Settings → Noisy Hihat → Float → Turn (Noisy Hihat)
-vca b s out =
+-- `sustain_gain.next()` in a sustained block only; what it returns is what the interpolator stores at the end
+unfoldable pub amplified : Settings → Noisy Hihat → Float → Turn (Noisy Hihat)
+amplified b s out =
     let self = s .voice in
     let envelope = self .envelope ⊗ decay b (self .envelope) in
     let next = ParameterInterpolator.next (record { value = self .«sustain_gain»; increment = b .«gain_increment» }) in
@@ -186,13 +182,14 @@ unfoldable pub passes : Settings → Passed (Noisy Hihat) → Passed (Noisy Hiha
 passes b p =
     -- Render the metallic noise.
     let p₁ = filled (metallic b) p in
-    -- Apply BPF on the metallic noise.
+    -- Apply BPF on the metallic noise. `out.copy_from_slice(temp_1);`: in place.
     let p₂ = pass colored (setting (voiced (setColoration b)) p₁) in
     -- This is not at all part of the 808 circuit! But to add more variety, we add a variable amount of clocked noise to the output of the
     -- 6 schmitt trigger oscillators.
     let p₃ = pass (clocked b) p₂ in
     -- Apply VCA.
-    let p₄ = pass (vca b) p₃ in
+    let p₄ = pass (amplified b) p₃ in
+    -- `self.hpf.process_buffer(out, temp_1, FilterMode::HighPass);`
     pass highPassed (setting (voiced (setHpf b)) p₄)
 
 -- ---- render: the call
@@ -213,6 +210,7 @@ abbrev pub render : Noisy Hihat → Bool → VcaType → Knobs → List Float �
 render s trigger «vca_type» k out =
     let self = s .voice in
     let b = settings self «vca_type» k (length out) in
+    -- `if trigger {`
     let begun = noisy (cond trigger (triggered self k) self) (s .noise) in
     let p = passes b (record { state = begun; out = out }) in
     call (renderRefusal (self .«sample_rate») k (length out)) (p .state) (p .out) s out

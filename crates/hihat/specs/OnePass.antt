@@ -6,7 +6,7 @@ use Rattle.refusal.specs.Refusal.{Noisy, noisy}
 use Rattle.hihat.specs.declared.Hihat.{Hihat}
 use Rattle.hihat.specs.declared.Settings.{Settings}
 use Rattle.hihat.specs.declared.turn.Turn.{Turn as Sample}
-use Rattle.hihat.specs.Hihat.{metallic, setColoration, colored, clocked, vca, setHpf, highPassed}
+use Rattle.hihat.specs.Hihat.{metallic, setColoration, colored, clocked, amplified, setHpf, highPassed}
 
 -- both filters set before the one pass
 abbrev pub tuned : Settings → Hihat → Hihat
@@ -14,9 +14,9 @@ tuned b self = setHpf b (setColoration b self)
 
 -- the first pass is a source, so what stands in the buffer is not read
 unfoldable pub step : Settings → Noisy Hihat → Float → Turn (Noisy Hihat)
-step b = then (then (then (then (source (metallic b)) colored) (clocked b)) (vca b)) highPassed
+step b = then (then (then (then (source (metallic b)) colored) (clocked b)) (amplified b)) highPassed
 
--- what the code's struct says
+-- a turn of the code, as the definitions have it
 abbrev pub behind : Sample → Noisy Hihat
 behind t = noisy (t .voice) (t .noise)
 

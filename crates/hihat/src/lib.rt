@@ -13,6 +13,7 @@ ghost use Rattle.refusal.specs.declared.Answer.the-variants.{Accepted};
 ghost use Rattle.block.specs.Block.{scan, scanned};
 ghost use Rattle.ieee754.specs.Single.{_⊕_, _⊗_, decimal};
 ghost use Rattle.hihat.specs.Hihat as spec;
+ghost use Rattle.hihat.specs.Hihat.{render};
 ghost use Rattle.hihat.specs.OnePass.{tuned, step, turned};
 use filter::FrequencyApproximation;
 use filter::Svf;
@@ -131,10 +132,10 @@ impl Hihat {
         knobs: Knobs,
         out: &mut [f32],
     ) -> Rendered
-        ensures number { λ r. ⌜ answerNumber (r .answer) ≡ spec.render (noisy self noise) trigger «vca_type» knobs (now (out .entry)) .number ⌝ }
-        ensures voice { λ r. ⌜ r .voice ≡ spec.render (noisy self noise) trigger «vca_type» knobs (now (out .entry)) .state .voice ⌝ }
-        ensures noise { λ r. ⌜ r .noise ≡ spec.render (noisy self noise) trigger «vca_type» knobs (now (out .entry)) .state .noise ⌝ }
-        ensures out { λ _. ⌜ now (out .exit) ≡ spec.render (noisy self noise) trigger «vca_type» knobs (now (out .entry)) .out ⌝ }
+        ensures number { λ r. ⌜ answerNumber (r .answer) ≡ render (noisy self noise) trigger «vca_type» knobs (now (out .entry)) .number ⌝ }
+        ensures voice { λ r. ⌜ r .voice ≡ render (noisy self noise) trigger «vca_type» knobs (now (out .entry)) .state .voice ⌝ }
+        ensures noise { λ r. ⌜ r .noise ≡ render (noisy self noise) trigger «vca_type» knobs (now (out .entry)) .state .noise ⌝ }
+        ensures out { λ _. ⌜ now (out .exit) ≡ render (noisy self noise) trigger «vca_type» knobs (now (out .entry)) .out ⌝ }
     {
         let answer = knobs.asked(self.sample_rate, out.len());
         match answer {

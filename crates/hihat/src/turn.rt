@@ -37,41 +37,32 @@ impl Turn {
     pub(crate) fn clocked(self, settings: Settings) -> Self
         ensures { λ r. ⌜ turned r ≡ spec.clocked settings (behind self) (self .sample) ⌝ }
     {
-        let t = self.ticked(settings);
-        Turn {
-            sample: t.sample + settings.noisiness * (t.voice.noise_sample - t.sample),
-            ..t
-        }
-    }
-
-    fn ticked(self, settings: Settings) -> Self
-        ensures voice { λ r. ⌜ r .voice ≡ spec.clocked settings (behind self) (self .sample) .next .voice ⌝ }
-        ensures noise { λ r. ⌜ r .noise ≡ spec.clocked settings (behind self) (self .sample) .next .noise ⌝ }
-        ensures sample { λ r. ⌜ r .sample ≡ self .sample ⌝ }
-    {
         let v = self.voice;
+        let out = self.sample;
         let noise_clock = v.noise_clock + settings.noise_f;
         if noise_clock >= 1.0 {
             let draw = random::get_float(self.noise);
+            let noise_sample = draw.value - 0.5;
             return Turn {
                 voice: Hihat {
                     noise_clock: noise_clock - 1.0,
-                    noise_sample: draw.value - 0.5,
+                    noise_sample,
                     ..v
                 },
                 noise: draw.word,
-                ..self
+                sample: out + settings.noisiness * (noise_sample - out),
             };
         }
         Turn {
             voice: Hihat { noise_clock, ..v },
-            ..self
+            noise: self.noise,
+            sample: out + settings.noisiness * (v.noise_sample - out),
         }
     }
 
     // Apply VCA.
     pub(crate) fn amplified(self, settings: Settings) -> Self
-        ensures { λ r. ⌜ turned r ≡ spec.vca settings (behind self) (self .sample) ⌝ }
+        ensures { λ r. ⌜ turned r ≡ spec.amplified settings (behind self) (self .sample) ⌝ }
     {
         let v = self.voice;
         let vca_type = settings.vca_type;

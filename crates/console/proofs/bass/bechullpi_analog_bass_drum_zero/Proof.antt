@@ -1,5 +1,5 @@
 -- The constant is, literal by literal, the record of zeros.
-use lib.Ieee.{round, ofBits}
+use lib.Ieee.{round, ofBits, mul, toUnsigned}
 use mathlib.Core.Path.{refl}
 use Rattle.filter.specs.Svf as Svf
 use Rattle.analog_bass_drum.specs.AnalogBassDrum.{ZERO}
@@ -7,7 +7,7 @@ use Rattle.console.proofs.bass.bechullpi_analog_bass_drum_zero.Statemen
 use Rattle.console.proofs.bass.bechullpi_analog_bass_drum_zero.Tie as tie
 
 returns : tie.Need-returns
-unfolding ZERO Svf.ZERO round ofBits
+unfolding ZERO Svf.ZERO round ofBits mul toUnsigned
 returns c = refl
 
 pub bechullpi-analog-bass-drum-zero-spec : {M : Type 1} → statement M

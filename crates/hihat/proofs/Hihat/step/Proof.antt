@@ -2,12 +2,12 @@
 use borrow.Author.Needs.{needs}
 use mathlib.Core.Path.{_≡_, ap, _∙_}
 use lib.Ieee.{Float}
-use Rattle.block.specs.Block.{Turn}
+use Rattle.block.specs.Block.{Turn, source}
 use Rattle.block.specs.OnePass.{then}
 use Rattle.refusal.specs.Refusal.{noisy}
-use Rattle.hihat.specs.Hihat.{colored, clocked, vca, highPassed}
+use Rattle.hihat.specs.Hihat.{metallic, colored, clocked, amplified, highPassed}
 use Rattle.hihat.specs.OnePass.{step}
-use Rattle.hihat.proofs.OnePass.{one, two, three, four}
+use Rattle.hihat.proofs.OnePass.{two, three, four}
 use Rattle.hihat.proofs.Hihat.step.Statement.{statement}
 use Rattle.hihat.proofs.Hihat.step.Tie as tie
 
@@ -23,9 +23,9 @@ returns c = λ x.
     let args = at-color .before .before .args in
     let b = args .settings in
     let s = noisy (args .self) (args .noise) in
-    let second = through (one b) colored s x _ _ (at-color .before .metallic .ensures) (at-color .colored .ensures) in
+    let second = through (source (metallic b)) colored s x _ _ (at-color .before .metallic .ensures) (at-color .colored .ensures) in
     let third = through (two b) (clocked b) s x _ _ second (at-clock .clocked .ensures) in
-    let fourth = through (three b) (vca b) s x _ _ third (at-vca .amplified .ensures) in
+    let fourth = through (three b) (amplified b) s x _ _ third (at-vca .amplified .ensures) in
     through (four b) highPassed s x _ _ fourth (c .high-passed .ensures)
 
 pub step-spec : {M : Type 1} → statement M

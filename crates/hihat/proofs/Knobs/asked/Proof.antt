@@ -8,16 +8,9 @@ returns : tie.Need-returns
 unfolding renderRefusal
 returns c =
     let f0 = c .before .before in
-    let knobs = f0 .before .before in
-    rw (
-      c .ask-sample-rate .ensures,
-      c .before .ask-block-length .ensures,
-      f0 .ask-frequency .ensures,
-      f0 .before .ask-accent .ensures,
-      knobs .ask-knob3 .ensures,
-      knobs .before .ask-knob2 .ensures,
-      knobs .before .before .ask-knob .ensures,
-    )
+    let tone = f0 .before .before in
+    rw (c .ask-sample-rate .ensures, c .before .ask-block-length .ensures, f0 .ask-frequency .ensures, f0 .before .ask-accent .ensures)
+    (rw (tone .ask-knob3 .ensures, tone .before .ask-knob2 .ensures, tone .before .before .ask-knob .ensures))
 
 pub asked-spec : {M : Type 1} → statement M
 asked-spec =

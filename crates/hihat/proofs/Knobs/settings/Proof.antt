@@ -13,16 +13,9 @@ returns c =
     let at-increment = at-tone .before .before .before in
     let at-cut = at-increment .before .before in
     let at-envelope = at-cut .before .before in
-    rw (
-      c .clamp2 .ensures,
-      c .before .before .q .ensures,
-      at-cutoff .clamp .ensures,
-      at-tone .semitones-to-ratio3 .ensures .0,
-      at-increment .increments .ensures,
-      at-cut .semitones-to-ratio2 .ensures .0,
-      at-envelope .semitones-to-ratio .ensures .0,
-      at-envelope .before .before .new .ensures,
-    )
+    rw (c .clamp2 .ensures, c .before .before .q .ensures, at-cutoff .clamp .ensures, at-tone .semitones-to-ratio3 .ensures .0)
+    (rw (at-increment .increments .ensures, at-cut .semitones-to-ratio2 .ensures .0, at-envelope .semitones-to-ratio .ensures .0)
+    (rw (at-envelope .before .before .new .ensures)))
 
 pub settings-spec : {M : Type 1} → statement M
 settings-spec =

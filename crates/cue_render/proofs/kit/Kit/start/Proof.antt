@@ -1,6 +1,6 @@
 -- All voices from init, each at the rate of the sheet; the constants are the records of zeros.
 use borrow.Author.Needs.{needs}
-use lib.Ieee.{round, ofBits}
+use lib.Ieee.{round, ofBits, mul, toUnsigned}
 use Rattle.filter.specs.Svf as Svf
 use Rattle.filter.specs.OnePole as OnePole
 use Rattle.analog_bass_drum.specs.AnalogBassDrum as AnalogBassDrum
@@ -12,7 +12,7 @@ use Rattle.cue_render.proofs.kit.Kit.start.Statement.{statement}
 use Rattle.cue_render.proofs.kit.Kit.start.Tie as tie
 
 returns : tie.Need-returns
-unfolding start AnalogBassDrum.ZERO AnalogSnareDrum.ZERO SyntheticSnareDrum.ZERO Hihat.ZERO Svf.ZERO OnePole.ZERO round ofBits
+unfolding start AnalogBassDrum.ZERO AnalogSnareDrum.ZERO SyntheticSnareDrum.ZERO Hihat.ZERO Svf.ZERO OnePole.ZERO round ofBits mul toUnsigned
 returns c =
     let h = c .before .before in
     let y = h .before .before in

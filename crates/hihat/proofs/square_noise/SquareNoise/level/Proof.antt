@@ -1,10 +1,9 @@
 -- A key is the count, and where there is none it is 6.
 use borrow.Author.Needs.{needs}
-use lib.Ieee.{round, ofBits}
-use lib.Ieee.{ofInt}
-use Rattle.hihat.specs.SquareNoise.{level}
 use mathlib.Core.Path.{_≡_}
 use native.Mathlib.Omega.{arith}
+use lib.Ieee.{round, ofBits, ofInt}
+use Rattle.hihat.specs.SquareNoise.{level}
 use Rattle.hihat.proofs.square_noise.SquareNoise.level.Statement.{statement}
 use Rattle.hihat.proofs.square_noise.SquareNoise.level.Tie as tie
 

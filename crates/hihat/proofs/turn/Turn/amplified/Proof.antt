@@ -1,17 +1,17 @@
 -- Line by line the definition, in a sustained block and in any other.
 use borrow.Author.Needs.{needs}
-use Rattle.hihat.specs.Hihat.{vca}
+use Rattle.hihat.specs.Hihat.{amplified}
 use Rattle.hihat.proofs.turn.Turn.amplified.Statement.{statement}
 use Rattle.hihat.proofs.turn.Turn.amplified.Tie as tie
 
 sustained : tie.Need-returns
-unfolding vca
+unfolding amplified
 sustained c =
     let at-test = c .before .before .before .before .before .before in
     rw (c .amplify .ensures, at-test .before .before .decay .ensures, at-test .if1 .taken)
 
 decaying : tie.Need-returns-2
-unfolding vca
+unfolding amplified
 decaying c =
     let at-test = c .before .before .before .before in
     rw (c .amplify2 .ensures, at-test .before .before .decay .ensures, at-test .if1 .left)

@@ -1,11 +1,14 @@
--- The clock's value in the definition's turn.
+-- The definition's two arms, by the clock.
 use borrow.Author.Needs.{needs}
+use lib.Ieee.{round, ofBits}
 use Rattle.hihat.specs.Hihat.{clocked}
 use Rattle.hihat.proofs.turn.Turn.clocked.Statement.{statement}
 use Rattle.hihat.proofs.turn.Turn.clocked.Tie as tie
 
 pub clocked-spec : {M : Type 1} → statement M
-unfolding clocked
+unfolding clocked round ofBits
 clocked-spec =
     tie.close
-    (tie.spec (λ c κs. search needs) (λ c. let e = c .before .before .before .before .ticked .ensures in rw (e .0, e .1 .0, e .1 .1)))
+    (tie.spec (λ c κs. search needs)
+    (λ c. let drawn = c .before .before .before .before .before in rw (drawn .get-float .ensures, drawn .before .if1 .taken))
+    (λ c. rw (c .before .before .before .before .before .if1 .left)))

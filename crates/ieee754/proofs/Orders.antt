@@ -2,12 +2,12 @@
 use borrow.Author.Tests.{not-true, not-false, lt-ltb, le-ltb, leb-true, leb-false}
 use mathlib.Core.Path.{_≡_, refl, sym, _∙_}
 use mathlib.Core.Bool.{Bool, true, false, not, _&&_, _||_, and-false, or-false, true≢false}
-use Prim.Native.Nat.{ℕ, _+_, _*_, _<_}
+use Prim.Native.Nat.{ℕ, _+_}
 use native.Mathlib.Nat.{le-of-eq}
 use native.Mathlib.Decide.{decLt}
 use native.Mathlib.Omega.{arith}
 use lib.Dec.{T, leb, ltb}
-use lib.Ieee.{Float, nan, inf, fin, Format, fits, isNan, lt, eq, ne, toBits, top, below, level, up, down}
+use lib.Ieee.{Float, nan, inf, fin, Format, fits, isNan, lt, eq, ne, toBits, top, below, level}
 use Rattle.ieee754.specs.Operations.{isSignMinus, abs, precedes, smallerMagnitude}
 use Rattle.ieee754.proofs.Equal.{equal-numbers, equal-bits}
 use Rattle.ieee754.proofs.Fields.{sign-bit, one-value, abs-number}

@@ -1,5 +1,4 @@
 -- n with its leading digit at bit 31, without its last byte, is n rounded (`Rounding`).
-use borrow.Author.Needs.{needs}
 use mathlib.Core.Path.{_≡_, sym}
 use Prim.Native.Nat.{ℕ, suc, _+_, _-_, _*_, _/_, _%_, _^_, _≤_, _<_, compare}
 use native.Mathlib.Nat.{mod-eq-of-lt}
@@ -49,4 +48,4 @@ pub nearest-f32-spec : {M : Type 1} → statement M
 unfolding ofBits ofInt
 nearest-f32-spec =
     tie.close
-    (tie.spec (λ c. rw (c .if1 .taken)) (λ c. omega (arith, lead c .1)) (λ c. omega (arith, lead c .1)) (λ c κs. search needs) packed-requires returns-2)
+    (tie.spec (λ c. rw (c .if1 .taken)) (λ c. omega (arith, lead c .1)) (λ c. omega (arith, lead c .1)) (λ c κs. tt) packed-requires returns-2)

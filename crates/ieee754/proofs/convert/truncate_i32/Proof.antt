@@ -38,7 +38,7 @@ negated-fits n h = rw (negated n h) (go n h)
 pub truncate-i32-spec : {M : Type 1} → statement M
 truncate-i32-spec =
     tie.close
-    (tie.spec (λ c κs. search needs) (λ c. rw (minus (c .before), min-eq-right (c .if2 .taken))) (λ c. search needs) (λ c. negated-fits _ (c .if2 .left))
-    (λ c κs. search needs) (λ c. rw (plus (c .before), min-eq-right (le-of-lt (c .if3 .taken)))) (λ c. search needs)
+    (tie.spec (λ c κs. tt) (λ c. rw (minus (c .before), min-eq-right (c .if2 .taken))) (λ c. search needs) (λ c. negated-fits _ (c .if2 .left))
+    (λ c κs. tt) (λ c. rw (plus (c .before), min-eq-right (le-of-lt (c .if3 .taken)))) (λ c. search needs)
     (λ c. let h = c .if2 .left in rw (minus (c .before), min-eq-left (le-of-lt h)) (toZ-ofZ w32 _ (negated-fits _ h) ∙ negated _ h))
     (λ c. rw (plus (c .before), min-eq-left (c .if3 .left)) (toZ-pos w32 _ (omega (arith, c .if3 .left)))))

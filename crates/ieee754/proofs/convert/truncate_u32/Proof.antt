@@ -14,4 +14,4 @@ held c = rw (c .truncate-u64 .ensures) (narrowed 32 64 _ (lit≤ tt))
 
 pub truncate-u32-spec : {M : Type 1} → statement M
 truncate-u32-spec =
-    tie.close (tie.spec (λ c κs. search needs) (λ c. search needs) (λ c. omega (arith, held (c .before))) (λ c. omega (arith, held (c .before))))
+    tie.close (tie.spec (λ c κs. tt) (λ c. search needs) (λ c. omega (arith, held (c .before))) (λ c. omega (arith, held (c .before))))

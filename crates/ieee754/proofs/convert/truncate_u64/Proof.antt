@@ -34,4 +34,4 @@ truncate-u64-spec =
     (λ c. of-minus 64 _ (sign-bit binary32 _ (held (c .before)) (number (c .before)) ∙ le-leb _ _ (c .if2 .taken)))
     (λ c. let s = c .before in below-one binary32 _ (held (s .before)) (s .if2 .left) 64 (c .if3 .taken))
     (λ c. let s = c .before .before in past-width binary32 _ (held (s .before)) (s .if2 .left) 64 (number (s .before)) (c .if4 .taken))
-    (λ c κs. search needs) (λ c. search needs) (λ c. search needs) (λ c. search needs) returns-5)
+    (λ c κs. tt) (λ c. search needs) (λ c. search needs) (λ c. search needs) returns-5)

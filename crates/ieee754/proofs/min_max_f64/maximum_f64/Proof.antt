@@ -1,5 +1,4 @@
 -- The larger value, and a NaN where an operand is a NaN.
-use borrow.Author.Needs.{needs}
 use Rattle.ieee754.proofs.Choice.{ways, beside-nan, takes-first, takes-second}
 use Rattle.ieee754.proofs.min_max_f64.maximum_f64.Statement.{statement}
 use Rattle.ieee754.proofs.min_max_f64.maximum_f64.Tie as tie
@@ -8,7 +7,6 @@ pub maximum-f64-spec : {M : Type 1} → statement M
 maximum-f64-spec =
     let w = ways .maximum in
     tie.close
-    (tie.spec (λ c κs. search needs) (λ c κs. search needs)
-    (λ c. beside-nan w _ _ (c .before .before .unordered .ensures) (c .before .if1 .taken) (c .either-nan .ensures)) (λ c κs. search needs)
-    (λ c. takes-first w _ _ (c .before .precedes .ensures) (c .if2 .taken))
+    (tie.spec (λ c κs. tt) (λ c κs. tt) (λ c. let s = c .before in beside-nan w _ _ (s .before .unordered .ensures) (s .if1 .taken) (c .either-nan .ensures))
+    (λ c κs. tt) (λ c. takes-first w _ _ (c .before .precedes .ensures) (c .if2 .taken))
     (λ c. let s = c .before .before in takes-second w _ _ (s .before .unordered .ensures) (s .if1 .left) (c .before .precedes .ensures) (c .if2 .left)))

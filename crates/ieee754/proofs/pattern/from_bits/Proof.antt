@@ -9,5 +9,5 @@ pub from-bits-spec : {M : Type 1} → statement M
 unfolding div ofBits
 from-bits-spec =
     tie.close
-    (tie.spec (λ c κs. search needs) (λ c. made _ (c .before .is-number .ensures) (c .if1 .taken)) (λ c. search needs)
+    (tie.spec (λ c κs. tt) (λ c. made _ (c .before .is-number .ensures) (c .if1 .taken)) (λ c. search needs)
     (λ c. rw (nan-read _ (c .before .is-number .ensures) (c .if1 .left))))

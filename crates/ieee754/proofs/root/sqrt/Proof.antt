@@ -97,5 +97,5 @@ sqrt-spec =
     (λ c. let n = c .before .before in sym (of-minus binary32 _ (sign-bit binary32 _ (held n) (number n) ∙ le-leb _ _ (c .if3 .taken)) (c .before .if2 .left)))
     (λ c. let n = c .before .before .before in of-infinity binary32 _ (infinite binary32 _ (held n) (c .before .if3 .left) (number n) (omega arith)))
     (λ c. omega (arith, lead c .1)) (λ c. omega (arith, zeros c)) (λ c. omega (arith, lead c .1)) (λ c κs. rw (whole c) (omega (arith, moved c)))
-    (λ c. let s = c .before in c .rounded-root .ensures (b s) (rw (whole s) (places s)) ∙ sym (subnormal s)) (λ c. search needs) (λ c κs. search needs)
+    (λ c. let s = c .before in c .rounded-root .ensures (b s) (rw (whole s) (places s)) ∙ sym (subnormal s)) (λ c. search needs) (λ c κs. tt)
     (λ c κs. omega (arith, c .significand .ensures, c .before .before .if4 .left)) returns-6)

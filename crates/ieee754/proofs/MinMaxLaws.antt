@@ -16,22 +16,19 @@ module _ (x y : Float) where
   one-of true = inl refl
   one-of false = inr refl
 
-  exchanged : (m n : Bool) → (m ≡ n → x ≡ y) → cond m x y ≡ cond n y x
-  exchanged true true e = e refl
-  exchanged true false e = refl
-  exchanged false true e = refl
-  exchanged false false e = sym (e refl)
-
   one-value : (f : Format) → T (fits f x) → T (fits f y) → Same x y → (a : Bool) → isNan x ≡ a → isNan y ≡ a → x ≡ y
   one-value f F G same true A B = only-nan x A ∙ sym (only-nan y B)
   one-value f F G same false A B = same (A, B) f F G
 
-  ordered : (p q : Bool) {m n : Bool} → Placed Same x y p q → (Numbers x y → m ≡ false) → (Numbers x y → n ≡ false) → (Same x y → m ≡ n → x ≡ y)
+  exchanged : (p q m n : Bool) → Placed Same x y p q → (Numbers x y → m ≡ false) → (Numbers x y → n ≡ false) → (Same x y → m ≡ n → x ≡ y)
       → cond (p || m) x y ≡ cond (q || n) y x
-  ordered true true l M N e = absurd l
-  ordered true false l M N e = rw (N l)
-  ordered false true l M N e = rw (M l)
-  ordered false false l M N e = exchanged _ _ (e l)
+  exchanged true true m n l M N e = absurd l
+  exchanged true false m n l M N e = rw (N l)
+  exchanged false true m n l M N e = rw (M l)
+  exchanged false false true true l M N e = e l refl
+  exchanged false false true false l M N e = refl
+  exchanged false false false true l M N e = refl
+  exchanged false false false false l M N e = sym (e l refl)
 
 module _ (f : Format) {op : Float → Float → Float} {before : Float → Float → Bool} {rest : Float → Float → Float} {nanIf : Bool → Bool → Bool}
     (way : Way op before rest nanIf) where
@@ -41,7 +38,7 @@ module _ (f : Format) {op : Float → Float → Float} {before : Float → Float
     idempotent = λ x. by-test way x x ∙ itself x (before x x || way .rule .takes x x);
     commutative = λ x y F G.
         by-test way x y
-        ∙ ordered x y (before x y) (before y x) (way .order .at x y) (way .rule .numbers x y) (λ n. way .rule .numbers y x (n .1, n .0))
+        ∙ exchanged x y (before x y) (before y x) _ _ (way .order .at x y) (way .rule .numbers x y) (λ n. way .rule .numbers y x (n .1, n .0))
         (λ same e. one-value x y f F G same (isNan y) (way .rule .alike x y e) refl)
         ∙ sym (by-test way y x);
     zeros = z;

@@ -9,7 +9,7 @@ use native.Mathlib.Omega.{arith}
 use lib.Dec.{T, leb, ltb}
 use lib.Ieee.{Float, nan, inf, fin, Format, fits, isNan, lt, eq, ne, toBits, top, below, level}
 use Rattle.ieee754.specs.Operations.{isSignMinus, abs, precedes, smallerMagnitude}
-use Rattle.ieee754.proofs.Equal.{equal-numbers, equal-bits}
+use Rattle.ieee754.proofs.Equal.{equal}
 use Rattle.ieee754.proofs.Fields.{sign-bit, one-value, abs-number}
 use Rattle.ieee754.proofs.SmallestUnits.{same-bits}
 
@@ -24,17 +24,17 @@ module _ (x y : Float) where
   unfolding precedes ne
   unequal l n = let e = not-true (eq x y) n in simp (l, e)
 
-  equal : ne x y ≡ false → eq x y ≡ true
+  level-by : ne x y ≡ false → eq x y ≡ true
   unfolding ne
-  equal = not-false (eq x y)
+  level-by = not-false (eq x y)
 
   pub both-numbers : ne x y ≡ false → T (not (isNan x)) × T (not (isNan y))
-  both-numbers n = equal-numbers x y (equal n)
+  both-numbers n = let e = equal x y (level-by n) in (e .0, e .1)
 
   -- of equal numbers of two signs the negative one has the larger pattern
   pub zeros-in-order : (f : Format) → T (fits f x) → T (fits f y) → lt x y ≡ false → ne x y ≡ false → ltb (toBits f y) (toBits f x) ≡ precedes x y
   unfolding precedes
-  zeros-in-order f F G l n = let e = equal n in simp (l, e) (by-signs (isSignMinus x) (isSignMinus y) refl refl)
+  zeros-in-order f F G l n = let e = level-by n in simp (l, e) (by-signs (isSignMinus x) (isSignMinus y) refl refl)
     where
       at-x : isSignMinus x ≡ leb (top f) (toBits f x)
       at-x = sign-bit f x F (both-numbers n .0)
@@ -43,10 +43,10 @@ module _ (x y : Float) where
       at-y = sign-bit f y G (both-numbers n .1)
 
       by-signs : (s t : Bool) → isSignMinus x ≡ s → isSignMinus y ≡ t → ltb (toBits f y) (toBits f x) ≡ (s && not t)
-      by-signs true true p q = le-ltb _ _ (le-of-eq (equal-bits f x y (equal n) (p ∙ sym q)))
+      by-signs true true p q = le-ltb _ _ (le-of-eq (equal x y (level-by n) .2 f (p ∙ sym q)))
       by-signs true false p q = lt-ltb (toBits f y) (toBits f x) (omega (arith, leb-false (top f) (toBits f y) (sym at-y ∙ q), leb-true (top f) (toBits f x) (sym at-x ∙ p)))
       by-signs false true p q = le-ltb (toBits f y) (toBits f x) (omega (arith, leb-false (top f) (toBits f x) (sym at-x ∙ p), leb-true (top f) (toBits f y) (sym at-y ∙ q)))
-      by-signs false false p q = le-ltb _ _ (le-of-eq (equal-bits f x y (equal n) (p ∙ sym q)))
+      by-signs false false p q = le-ltb _ _ (le-of-eq (equal x y (level-by n) .2 f (p ∙ sym q)))
 
 -- ---- orders
 

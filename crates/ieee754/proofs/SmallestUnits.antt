@@ -12,8 +12,7 @@ use lib.Ieee.{Float, nan, inf, fin, Format, prec, emax, low, up, down, size, uni
 use lib.Ieee.Exact.{HasValue}
 use lib.Ieee.Fits.{odd-fits, down-pos}
 use lib.Ieee.Nearest.{div-same}
-use Rattle.ieee754.proofs.Fields.{plus-lt, significand, significand-lt, value, infinite, t-lt}
-use Rattle.ieee754.proofs.Formats.{emax-two}
+use Rattle.ieee754.proofs.Fields.{emax-two, plus-lt, significand, significand-lt, value, infinite, t-lt}
 
 -- digits * 2 ^ place units, with the digits of the format or one more after a carry, are a value of the format if they are below 2 ^ (emax + 1)
 pub units-fit : (f : Format) (s : Bool) (q k : ℕ) → q ≤ 2 ^ prec f → q * 2 ^ k < 2 ^ (low f + suc (emax f)) → T (fits f (units f s q k))

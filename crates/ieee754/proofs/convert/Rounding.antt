@@ -9,7 +9,7 @@ use lib.Pow.{pow-pos}
 use lib.Ieee.{Format, prec, low, size, units, ofInt}
 use lib.Ieee.Fits.{two, round-is}
 use lib.Ieee.Nearest.{closest, closest-same}
-use Rattle.ieee754.proofs.Formats.{emax-two}
+use Rattle.ieee754.proofs.Fields.{emax-two}
 use Rattle.ieee754.proofs.Numbers.{pow-swap, size-shifted, nearest-by}
 
 -- a / b goes up where twice the remainder is above b, or equals b under an odd quotient

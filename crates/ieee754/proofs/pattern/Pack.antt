@@ -11,7 +11,7 @@ use lib.Ieee.{Format, prec, emax, low, size, units, hid, ofBits, toBits}
 use lib.Ieee.Bits.{ofBits-toBits}
 use lib.Ieee.Exact.{units-val}
 use lib.Ieee.Fits.{two}
-use Rattle.ieee754.proofs.Formats.{twice-hid}
+use Rattle.ieee754.proofs.Fields.{twice-hid}
 use Rattle.ieee754.proofs.Numbers.{size-shifted}
 use Rattle.ieee754.proofs.SmallestUnits.{units-fit, pattern, toBits-of-value}
 

@@ -14,7 +14,7 @@ use lib.Ieee.{Format, prec, low, size, nearest, units, hid}
 use lib.Ieee.Digits.{size-lt, size-reaches}
 use lib.Ieee.Fits.{two, kept-lt}
 use Rattle.ieee754.specs.Root.{digit, rootIn, floorRoot, rootOf}
-use Rattle.ieee754.proofs.Formats.{twice-hid, deep}
+use Rattle.ieee754.proofs.Fields.{twice-hid, deep}
 use Rattle.ieee754.proofs.Numbers.{sq-lt-back, size-gt, size-exact, nearest-by}
 
 -- ---- s is the square root of n without its fraction

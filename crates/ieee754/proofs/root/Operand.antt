@@ -12,14 +12,6 @@ use lib.Ieee.Fits.{up-pos, down-pos}
 use Rattle.ieee754.specs.Operations.{isSignMinus}
 use Rattle.ieee754.specs.Root.{rootOf, sqrt}
 
-pub of-nan : (f : Format) (x : Float) → x ≡ nan → x ≡ sqrt f x
-unfolding sqrt
-of-nan f x e = rw e
-
-pub of-infinity : (f : Format) (x : Float) → x ≡ inf false → x ≡ sqrt f x
-unfolding sqrt
-of-infinity f x e = rw e
-
 -- `x == 0.0` holds of both zeros, and of nothing else
 zero-equals : (s : Bool) (e : ℤ) → eq (fin s zero e) (fin false 0 (pos 0)) ≡ true
 unfolding eq

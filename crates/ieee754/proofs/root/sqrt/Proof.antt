@@ -15,7 +15,7 @@ use lib.Ieee.Exact.{HasValue}
 use Rattle.ieee754.specs.Root.{rootOf, sqrt}
 use Rattle.ieee754.proofs.Fields.{is-nan, no-nan, sign-bit, significand, significand-is, value, infinite}
 use Rattle.ieee754.proofs.Numbers.{shifted}
-use Rattle.ieee754.proofs.root.Operand.{of-nan, of-zero, of-minus, of-infinity, of-value}
+use Rattle.ieee754.proofs.root.Operand.{of-zero, of-minus, of-value}
 use Rattle.ieee754.proofs.root.sqrt.Statement.{statement}
 use Rattle.ieee754.proofs.root.sqrt.Tie as tie
 
@@ -90,12 +90,12 @@ returns-6 c =
     (rw (significand-is binary32 e t (pos-of-ne-zero (normal .if5 .left))) at (units-of (normal .before))))
 
 pub sqrt-spec : {M : Type 1} → statement M
-unfolding ofBits div
+unfolding ofBits div sqrt
 sqrt-spec =
     tie.close
-    (tie.spec (λ c. of-nan binary32 _ (is-nan _ (c .if1 .taken))) (λ c. of-zero binary32 _ (c .if2 .taken)) (λ c. number (c .before))
+    (tie.spec (λ c. rw (is-nan _ (c .if1 .taken))) (λ c. of-zero binary32 _ (c .if2 .taken)) (λ c. number (c .before))
     (λ c. let n = c .before .before in sym (of-minus binary32 _ (sign-bit binary32 _ (held n) (number n) ∙ le-leb _ _ (c .if3 .taken)) (c .before .if2 .left)))
-    (λ c. let n = c .before .before .before in of-infinity binary32 _ (infinite binary32 _ (held n) (c .before .if3 .left) (number n) (omega arith)))
+    (λ c. let n = c .before .before .before in rw (infinite binary32 _ (held n) (c .before .if3 .left) (number n) (omega arith)))
     (λ c. omega (arith, lead c .1)) (λ c. omega (arith, zeros c)) (λ c. omega (arith, lead c .1)) (λ c κs. rw (whole c) (omega (arith, moved c)))
     (λ c. let s = c .before in c .rounded-root .ensures (b s) (rw (whole s) (places s)) ∙ sym (subnormal s)) (λ c. search needs) (λ c κs. tt)
     (λ c κs. omega (arith, c .significand .ensures, c .before .before .if4 .left)) returns-6)

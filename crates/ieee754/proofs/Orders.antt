@@ -3,7 +3,6 @@ use borrow.Author.Tests.{not-true, not-false, lt-ltb, le-ltb, leb-true, leb-fals
 use mathlib.Core.Path.{_≡_, refl, sym, _∙_}
 use mathlib.Core.Bool.{Bool, true, false, not, _&&_, _||_, and-false, or-false, true≢false}
 use Prim.Native.Nat.{ℕ, _+_}
-use native.Mathlib.Nat.{le-of-eq}
 use native.Mathlib.Decide.{decLt}
 use native.Mathlib.Omega.{arith}
 use lib.Dec.{T, leb, ltb}
@@ -14,6 +13,13 @@ use Rattle.ieee754.proofs.Fields.{sign-bit, one-value, abs-number}
 use Rattle.ieee754.proofs.SmallestUnits.{same-bits}
 
 -- ---- `precedes` by the tests that a program makes: -0 comes before +0
+
+-- of equal numbers, with the patterns a and b, the negative one has the larger pattern, if they differ in sign
+by-top : (s t : Bool) (k a b : ℕ) → s ≡ leb k a → t ≡ leb k b → (s ≡ t → a ≡ b) → ltb b a ≡ (s && not t)
+by-top true true k a b S T e = le-ltb b a (omega (arith, e refl))
+by-top true false k a b S T e = lt-ltb b a (omega (arith, leb-true k a (sym S), leb-false k b (sym T)))
+by-top false true k a b S T e = le-ltb b a (omega (arith, leb-false k a (sym S), leb-true k b (sym T)))
+by-top false false k a b S T e = le-ltb b a (omega (arith, e refl))
 
 module _ (x y : Float) where
   pub less : lt x y ≡ true → true ≡ precedes x y
@@ -31,22 +37,12 @@ module _ (x y : Float) where
   pub both-numbers : ne x y ≡ false → T (not (isNan x)) × T (not (isNan y))
   both-numbers n = let e = equal x y (level-by n) in (e .0, e .1)
 
-  -- of equal numbers of two signs the negative one has the larger pattern
   pub zeros-in-order : (f : Format) → T (fits f x) → T (fits f y) → lt x y ≡ false → ne x y ≡ false → ltb (toBits f y) (toBits f x) ≡ precedes x y
   unfolding precedes
-  zeros-in-order f F G l n = let e = level-by n in simp (l, e) (by-signs (isSignMinus x) (isSignMinus y) refl refl)
-    where
-      at-x : isSignMinus x ≡ leb (top f) (toBits f x)
-      at-x = sign-bit f x F (both-numbers n .0)
-
-      at-y : isSignMinus y ≡ leb (top f) (toBits f y)
-      at-y = sign-bit f y G (both-numbers n .1)
-
-      by-signs : (s t : Bool) → isSignMinus x ≡ s → isSignMinus y ≡ t → ltb (toBits f y) (toBits f x) ≡ (s && not t)
-      by-signs true true p q = le-ltb _ _ (le-of-eq (equal x y (level-by n) .2 f (p ∙ sym q)))
-      by-signs true false p q = lt-ltb (toBits f y) (toBits f x) (omega (arith, leb-false (top f) (toBits f y) (sym at-y ∙ q), leb-true (top f) (toBits f x) (sym at-x ∙ p)))
-      by-signs false true p q = le-ltb (toBits f y) (toBits f x) (omega (arith, leb-false (top f) (toBits f x) (sym at-x ∙ p), leb-true (top f) (toBits f y) (sym at-y ∙ q)))
-      by-signs false false p q = le-ltb _ _ (le-of-eq (equal x y (level-by n) .2 f (p ∙ sym q)))
+  zeros-in-order f F G l n =
+      let e = level-by n in
+      let q = equal x y e in
+      simp (l, e) (by-top _ _ (top f) _ _ (sign-bit f x F (q .0)) (sign-bit f y G (q .1)) (q .2 f))
 
 -- ---- orders
 

@@ -30,6 +30,9 @@ pub record InUnits (f : Format) (x : Float) : Type 0 where
 abbrev pub amount : {f : Format} {x : Float} → InUnits f x → ℕ
 amount u = u .digits * 2 ^ u .place
 
+not-infinite : (m : ℕ) (e : ℤ) → fin false m e ≡ inf false → ⊥
+not-infinite m e p = let z : _≡_ {A = ℕ} 0 1 = cc in omega arith
+
 pub in-units : (f : Format) (m : ℕ) (e : ℤ) → T (fits f (fin false m e)) → InUnits f (fin false m e)
 unfolding isNan
 in-units f m e h =
@@ -37,7 +40,7 @@ in-units f m e h =
     let plain = plus-lt f m e h in
     let E = toBits f x / hid f in
     let t = toBits f x % hid f in
-    let finite : E < ones f = lt-of-not-le (λ (g : ones f ≤ E). not-inf (infinite f x h plain tt g)) in
+    let finite : E < ones f = lt-of-not-le (λ (g : ones f ≤ E). not-infinite m e (infinite f x h plain tt g)) in
     let few = significand-lt f E t (t-lt f x h plain) in
     record {
       digits = significand f E t;
@@ -46,9 +49,6 @@ in-units f m e h =
       is = value f x h plain finite;
       reach = lt-of-lt-of-le (shl-lt (prec f) (E - 1) few) (pow-mono (omega (arith, emax-two f)));
     }
-  where
-    not-inf : fin false m e ≡ inf false → ⊥
-    not-inf p = let z : _≡_ {A = ℕ} 0 1 = cc in omega arith
 
 -- ---- the pattern, by any fraction a / c that the value equals
 

@@ -1,7 +1,7 @@
 -- `Root.sqrt` by what a program finds out about its operand.
 use borrow.Author.Tests.{ne-eqb}
 use mathlib.Core.Path.{_≡_, refl, sym, ap, _∙_}
-use mathlib.Core.Bool.{Bool, true, false, true≢false, false≢true}
+use mathlib.Core.Bool.{Bool, true, false, or-true, true≢false, false≢true}
 use Prim.Native.Nat.{ℕ, zero, suc, _*_, _/_, _^_, _<_}
 use native.Mathlib.Nat.{zero-mul, mul-pos, mul-div-cancel, zero-lt-suc}
 use native.Mathlib.Omega.{arith}
@@ -15,8 +15,7 @@ use Rattle.ieee754.specs.Root.{rootOf, sqrt}
 -- `x == 0.0` holds of both zeros, and of nothing else
 zero-equals : (s : Bool) (e : ℤ) → eq (fin s zero e) (fin false 0 (pos 0)) ≡ true
 unfolding eq
-zero-equals true e = rw (zero-mul (up e), zero-mul (down e))
-zero-equals false e = rw (zero-mul (up e), zero-mul (down e))
+zero-equals s e = simp (zero-mul, or-true)
 
 more-differs : (s : Bool) (m : ℕ) (e : ℤ) → eq (fin s (suc m) e) (fin false 0 (pos 0)) ≡ false
 unfolding eq

@@ -138,17 +138,14 @@ by-value = record { at = go }
 
 -- ---- by magnitude
 
-abbrev Any : Float → Float → Type 0
-Any x y = T true
-
-pub by-magnitude : Order Any smallerMagnitude
+pub by-magnitude : Order (λ x y. T true) smallerMagnitude
 unfolding precedes smallerMagnitude
 by-magnitude = record { at = λ x y. go x y (lt (abs x) (abs y)) (lt (abs y) (abs x)) _ _ (by-value .at (abs x) (abs y)) }
   where
     numbers : (x y : Float) → Numbers (abs x) (abs y) → Numbers x y
     numbers x y n = (sym (abs-number x) ∙ n .0, sym (abs-number y) ∙ n .1)
 
-    go : (x y : Float) (p q e d : Bool) → Placed Same (abs x) (abs y) (p || e) (q || d) → Placed Any x y p q
+    go : (x y : Float) (p q e d : Bool) → Placed Same (abs x) (abs y) (p || e) (q || d) → Placed (λ x y. T true) x y p q
     go x y true true e d l = l
     go x y true false e true l = absurd l
     go x y true false e false l = numbers x y l

@@ -18,8 +18,7 @@ use Rattle.ieee754.specs.Root.{sqrt, total, RootBelowMiddle, RootAboveMi
 use Rattle.ieee754.proofs.Fields.{twice-hid, emax-two, one-value}
 use Rattle.ieee754.proofs.Numbers.{sq-lt-back, pow-split, nearest-by}
 use Rattle.ieee754.proofs.SmallestUnits.{InUnits, amount, in-units, units-fit, same-bits}
-use Rattle.ieee754.proofs.root.Cut.{Cut, half², rounded, rootOf-cut, cut-of}
-use Rattle.ieee754.proofs.root.Operand.{of-value}
+use Rattle.ieee754.proofs.root.Cut.{Cut, half², rounded, rootOf-cut, cut-of, of-value}
 
 -- ---- whole numbers
 

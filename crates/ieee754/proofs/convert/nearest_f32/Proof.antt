@@ -1,4 +1,4 @@
--- n with its leading digit at bit 31, without its last byte, is n rounded (`Rounding`).
+-- n with its leading digit at bit 31, without its last byte, is n rounded (`Whole`).
 use mathlib.Core.Path.{_≡_, sym}
 use Prim.Native.Nat.{ℕ, suc, _+_, _-_, _*_, _/_, _%_, _^_, _≤_, _<_, compare}
 use native.Mathlib.Nat.{mod-eq-of-lt}
@@ -9,7 +9,7 @@ use lib.Ieee.{binary32, ofBits, ofInt, nearest}
 use lib.Ieee.Fits.{nearest-le}
 use lib.Ieee.Nearest.{nearest-ge}
 use Rattle.ieee754.proofs.Numbers.{shifted}
-use Rattle.ieee754.proofs.convert.Rounding.{ofInt-packed}
+use Rattle.ieee754.proofs.Whole.{ofInt-packed}
 use Rattle.ieee754.proofs.convert.nearest_f32.Statement.{statement}
 use Rattle.ieee754.proofs.convert.nearest_f32.Tie as tie
 

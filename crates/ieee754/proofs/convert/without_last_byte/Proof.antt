@@ -1,10 +1,10 @@
--- The laws of `Rounding` for a quotient by 256; the masks are remainders.
+-- The laws of `Whole` for a quotient by 256; the masks are remainders.
 use borrow.Author.Needs.{needs}
 use mathlib.Core.Path.{_≡_, sym}
 use Prim.Native.Nat.{ℕ, _/_, _%_}
 use native.Mathlib.Omega.{arith}
 use lib.Bits.{bitAnd, and-mask}
-use Rattle.ieee754.proofs.convert.Rounding.{closest-up, closest-down}
+use Rattle.ieee754.proofs.Whole.{closest-up, closest-down}
 use Rattle.ieee754.proofs.convert.without_last_byte.Statement.{statement}
 use Rattle.ieee754.proofs.convert.without_last_byte.Tie as tie
 

@@ -1,4 +1,4 @@
--- The law of `Pack`: nothing is shifted out, and the pattern is no NaN's.
+-- The law of `SmallestUnits`: nothing is shifted out, and the pattern is no NaN's.
 use borrow.Author.Needs.{needs}
 use mathlib.Core.Path.{_≡_}
 use Prim.Native.Nat.{_+_, _*_, _%_, _^_, _≤_, _<_}
@@ -8,7 +8,7 @@ use lib.Dec.{lit<, le→leb}
 use lib.Pow.{pow-mono}
 use lib.Ieee.{binary32}
 use Rattle.ieee754.proofs.NotANumber.{number-bits}
-use Rattle.ieee754.proofs.pattern.Pack.{packed-is}
+use Rattle.ieee754.proofs.SmallestUnits.{packed-is}
 use Rattle.ieee754.proofs.pattern.packed.Statement.{statement}
 use Rattle.ieee754.proofs.pattern.packed.Tie as tie
 

@@ -1,4 +1,4 @@
--- The operands of `Operand`, one by one; a value above 0 is a significand at its place, a subnormal one moved up to it.
+-- The operands of `Cut`, one by one; a value above 0 is a significand at its place, a subnormal one moved up to it.
 use borrow.Author.Needs.{needs}
 use borrow.Author.Tests.{le-leb}
 use mathlib.Core.Path.{_≡_, sym, ap, _∙_}
@@ -15,7 +15,7 @@ use lib.Ieee.Exact.{HasValue}
 use Rattle.ieee754.specs.Root.{rootOf, sqrt}
 use Rattle.ieee754.proofs.Fields.{is-nan, no-nan, sign-bit, significand, significand-is, value, infinite}
 use Rattle.ieee754.proofs.Numbers.{shifted}
-use Rattle.ieee754.proofs.root.Operand.{of-zero, of-minus, of-value}
+use Rattle.ieee754.proofs.root.Cut.{of-zero, of-minus, of-value}
 use Rattle.ieee754.proofs.root.sqrt.Statement.{statement}
 use Rattle.ieee754.proofs.root.sqrt.Tie as tie
 

@@ -2,7 +2,6 @@
 mod Choice
 pub mod Equal
 mod Fields
-mod Formats
 pub mod MinMaxLaws
 pub mod NotANumber
 pub mod Numbers

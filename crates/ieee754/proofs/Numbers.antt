@@ -51,25 +51,12 @@ shifted j n k lo hi =
 pub size-shifted : (j n k : ℕ) → 2 ^ j ≤ n → n < 2 ^ suc j → size (n * 2 ^ k) ≡ suc (j + k)
 size-shifted j n k lo hi = let s = shifted j n k lo hi in size-exact (j + k) (n * 2 ^ k) (s .0) (s .1)
 
--- what `compare` says
-abbrev Compared : Ordering → ℕ → ℕ → Type 0
-Compared Ordering·lt a b = a < b
-Compared Ordering·eq a b = a ≡ b
-Compared Ordering·gt a b = b < a
-
-compared : (a b : ℕ) → Compared (compare a b) a b
-compared a b = go (compare a b) (leb→le a b) (nleb→lt a b) (eqb→eq a b) (λ (e : a ≡ b). subst (λ (x : ℕ). T (eqb a x)) e (eqb-refl a))
-  where
-    go : (o : Ordering) → (T (isLe o) → a ≤ b) → (T (not (isLe o)) → b < a) → (T (isEq o) → a ≡ b) → (a ≡ b → T (isEq o)) → Compared o a b
-    go Ordering·lt h k e n = lt-of-le-ne (h tt) n
-    go Ordering·eq h k e n = e tt
-    go Ordering·gt h k e n = k tt
-
 -- q or its neighbour, by how a compares with b: whatever holds in each of the three cases
 pub nearest-by : (P : ℕ → Type 0) (q a b : ℕ) → (a < b → P q) → (a ≡ b → P (q + q % 2)) → (b < a → P (suc q)) → P (nearest q (compare a b))
-nearest-by P q a b less tie more = go (compare a b) (compared a b)
+nearest-by P q a b less tie more =
+    go (compare a b) (leb→le a b) (nleb→lt a b) (eqb→eq a b) (λ (e : a ≡ b). subst (λ (x : ℕ). T (eqb a x)) e (eqb-refl a))
   where
-    go : (o : Ordering) → Compared o a b → P (nearest q o)
-    go Ordering·lt c = less c
-    go Ordering·eq c = tie c
-    go Ordering·gt c = more c
+    go : (o : Ordering) → (T (isLe o) → a ≤ b) → (T (not (isLe o)) → b < a) → (T (isEq o) → a ≡ b) → (a ≡ b → T (isEq o)) → P (nearest q o)
+    go Ordering·lt h k e n = less (lt-of-le-ne (h tt) n)
+    go Ordering·eq h k e n = tie (e tt)
+    go Ordering·gt h k e n = more (k tt)

@@ -1,20 +1,24 @@
--- The root of a units cut to the digits that a format keeps, which is what `Root.rootOf` rounds; in either format.
-use borrow.Author.Tests.{le-leb, lt-leb}
-use mathlib.Core.Path.{_≡_, refl, sym, _∙_}
-use mathlib.Core.Bool.{false, cond}
+-- The root of a units cut to the digits that a format keeps, which is what `Root.rootOf` rounds; and `Root.sqrt` by what a program finds out about its operand. In
+-- either format.
+use borrow.Author.Tests.{le-leb, lt-leb, ne-eqb}
+use mathlib.Core.Path.{_≡_, refl, sym, _∙_, ap}
+use mathlib.Core.Bool.{false, cond, Bool, true, or-true, true≢false, false≢true}
 use Prim.Native.Nat.{ℕ, zero, suc, _+_, _-_, _*_, _/_, _^_, _≤_, _<_, zero-le, compare}
-use native.Mathlib.Nat.{le-trans, le-of-eq, le-of-suc-le-suc, lt-of-lt-of-le, lt-of-le-of-lt, lt-suc-self}
-use native.Mathlib.Nat.{mul-le-mul, mul-le-mul-right, mul-pos, div-mul-le-self, div-lt-iff-lt-mul, le-div-iff-mul-le, div-eq-of-lt-le, pow-le-pow-left}
+use native.Mathlib.Nat.{le-trans, le-of-eq, le-of-suc-le-suc, lt-of-lt-of-le, lt-of-le-of-lt, lt-suc-self, le-div-iff-mul-le, zero-mul, zero-lt-suc}
+use native.Mathlib.Nat.{mul-le-mul, mul-le-mul-right, mul-pos, div-mul-le-self, div-lt-iff-lt-mul, div-eq-of-lt-le, pow-le-pow-left, mul-div-cancel}
 use native.Mathlib.Numerals.{add-one}
 use native.Mathlib.Omega.{arith}
 use native.Mathlib.Decide.{decLe}
 use lib.Dec.{leb, lit≤}
 use lib.Pow.{pow-add, pow-pos, pow-mono}
-use lib.Ieee.{Format, prec, low, size, nearest, units, hid}
+use lib.Ieee.{Format, prec, low, size, nearest, units, hid, Float, nan, inf, fin, up, down, eq}
 use lib.Ieee.Digits.{size-lt, size-reaches}
-use lib.Ieee.Fits.{two, kept-lt}
-use Rattle.ieee754.specs.Root.{digit, rootIn, floorRoot, rootOf}
-use Rattle.ieee754.proofs.Formats.{twice-hid, deep}
+use lib.Ieee.Fits.{two, kept-lt, up-pos, down-pos}
+use lib.Ieee.Exact.{HasValue}
+use lib.IntN.{ℤ, pos}
+use Rattle.ieee754.specs.Root.{digit, rootIn, floorRoot, rootOf, sqrt}
+use Rattle.ieee754.specs.Operations.{isSignMinus}
+use Rattle.ieee754.proofs.Fields.{twice-hid, deep}
 use Rattle.ieee754.proofs.Numbers.{sq-lt-back, size-gt, size-exact, nearest-by}
 
 -- ---- s is the square root of n without its fraction
@@ -124,3 +128,41 @@ module _ (f : Format) (a k q rest : ℕ) (is : a * 2 ^ low f ≡ (q * q + rest) 
       (λ l. absurd (omega (arith, mul-le-mul-right u h, u-pos)))
       (λ l. absurd (omega (arith, mul-le-mul-right u h, u-pos)))
       (λ _. refl)
+
+-- ---- the operands of `Root.sqrt`
+
+-- `x == 0.0` holds of both zeros, and of nothing else
+zero-equals : (s : Bool) (e : ℤ) → eq (fin s zero e) (fin false 0 (pos 0)) ≡ true
+unfolding eq
+zero-equals s e = simp (zero-mul, or-true)
+
+more-differs : (s : Bool) (m : ℕ) (e : ℤ) → eq (fin s (suc m) e) (fin false 0 (pos 0)) ≡ false
+unfolding eq
+more-differs s m e = rw (ne-eqb (suc m * up e * 1) (0 * 1 * down e) (omega (arith, mul-pos (zero-lt-suc m) (up-pos e))))
+
+-- x equals 0, whatever its sign
+pub of-zero : (f : Format) (x : Float) → eq x (fin false 0 (pos 0)) ≡ true → x ≡ sqrt f x
+unfolding sqrt eq
+of-zero f nan h = absurd (false≢true h)
+of-zero f (inf s) h = absurd (false≢true h)
+of-zero f (fin s zero e) h = refl
+of-zero f (fin s (suc m) e) h = absurd (true≢false (sym h ∙ more-differs s m e))
+
+-- x is below 0
+pub of-minus : (f : Format) (x : Float) → isSignMinus x ≡ true → eq x (fin false 0 (pos 0)) ≡ false → sqrt f x ≡ nan
+unfolding sqrt isSignMinus eq
+of-minus f nan s h = refl
+of-minus f (inf true) s h = refl
+of-minus f (inf false) s h = absurd (false≢true s)
+of-minus f (fin t zero e) s h = absurd (true≢false (sym (zero-equals t e) ∙ h))
+of-minus f (fin true (suc m) e) s h = refl
+of-minus f (fin false (suc m) e) s h = absurd (false≢true s)
+
+-- x is a units, above 0
+pub of-value : (f : Format) (x : Float) (a : ℕ) → 0 < a → HasValue x false a (2 ^ low f) → sqrt f x ≡ rootOf f a
+unfolding sqrt
+of-value f nan a A v = absurd v
+of-value f (inf t) a A v = absurd v
+of-value f (fin t zero e) a A v = absurd (omega (arith, v .1, mul-pos A (down-pos e)))
+of-value f (fin true (suc m) e) a A v = absurd (true≢false (v .0))
+of-value f (fin false (suc m) e) a A v = ap (rootOf f) (ap (λ (k : ℕ). k / down e) (v .1) ∙ mul-div-cancel a (down-pos e))

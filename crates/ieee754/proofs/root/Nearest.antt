@@ -15,12 +15,10 @@ use lib.Ieee.Fits.{nearest-le}
 use lib.Ieee.Nearest.{nearest-ge}
 use lib.Ieee.Positive.{num, den, positive, den-pos, value→cross, positive-of-value, value-pos}
 use Rattle.ieee754.specs.Root.{sqrt, total, RootBelowMiddle, RootAboveMiddle, NearestRoot}
-use Rattle.ieee754.proofs.Fields.{one-value}
-use Rattle.ieee754.proofs.Formats.{twice-hid, emax-two}
+use Rattle.ieee754.proofs.Fields.{twice-hid, emax-two, one-value}
 use Rattle.ieee754.proofs.Numbers.{sq-lt-back, pow-split, nearest-by}
 use Rattle.ieee754.proofs.SmallestUnits.{InUnits, amount, in-units, units-fit, same-bits}
-use Rattle.ieee754.proofs.root.Cut.{Cut, half², rounded, rootOf-cut, cut-of}
-use Rattle.ieee754.proofs.root.Operand.{of-value}
+use Rattle.ieee754.proofs.root.Cut.{Cut, half², rounded, rootOf-cut, cut-of, of-value}
 
 -- ---- whole numbers
 

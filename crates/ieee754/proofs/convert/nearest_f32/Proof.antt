@@ -1,5 +1,4 @@
--- n with its leading digit at bit 31, without its last byte, is n rounded (`Rounding`).
-use borrow.Author.Needs.{needs}
+-- n with its leading digit at bit 31, without its last byte, is n rounded (`Whole`).
 use mathlib.Core.Path.{_≡_, sym}
 use Prim.Native.Nat.{ℕ, suc, _+_, _-_, _*_, _/_, _%_, _^_, _≤_, _<_, compare}
 use native.Mathlib.Nat.{mod-eq-of-lt}
@@ -10,7 +9,7 @@ use lib.Ieee.{binary32, ofBits, ofInt, nearest}
 use lib.Ieee.Fits.{nearest-le}
 use lib.Ieee.Nearest.{nearest-ge}
 use Rattle.ieee754.proofs.Numbers.{shifted}
-use Rattle.ieee754.proofs.convert.Rounding.{ofInt-packed}
+use Rattle.ieee754.proofs.Whole.{ofInt-packed}
 use Rattle.ieee754.proofs.convert.nearest_f32.Statement.{statement}
 use Rattle.ieee754.proofs.convert.nearest_f32.Tie as tie
 
@@ -31,10 +30,6 @@ module _ (c : tie.Else1) where
   whole : n * 2 ^ z % 2 ^ 32 ≡ n * 2 ^ z
   whole = mod-eq-of-lt (moved .1)
 
-returns : tie.Need-returns
-unfolding ofBits ofInt
-returns c = rw (c .if1 .taken)
-
 packed-requires : tie.Need-packed-requires
 packed-requires c κs =
     let m = n (c .before) * 2 ^ z (c .before) in
@@ -50,4 +45,7 @@ returns-2 c =
     (sym (ofInt-packed binary32 32 (z b) (lead b .0) (n b) (lit≤ tt) (lead b .1) (lead b .2) (lead b .3)))
 
 pub nearest-f32-spec : {M : Type 1} → statement M
-nearest-f32-spec = tie.close (tie.spec returns (λ c. omega (arith, lead c .1)) (λ c. omega (arith, lead c .1)) (λ c κs. search needs) packed-requires returns-2)
+unfolding ofBits ofInt
+nearest-f32-spec =
+    tie.close
+    (tie.spec (λ c. rw (c .if1 .taken)) (λ c. omega (arith, lead c .1)) (λ c. omega (arith, lead c .1)) (λ c κs. tt) packed-requires returns-2)

@@ -35,24 +35,10 @@ negated-fits n h = rw (negated n h) (go n h)
     go zero h = record { sfits = h }
     go (suc n) h = record { sfits = omega arith }
 
-returns : tie.Need-returns
-returns c = rw (minus (c .before), min-eq-right (c .if2 .taken))
-
-sub-result : tie.Need-sub-result
-sub-result c = negated-fits _ (c .if2 .left)
-
-returns-2 : tie.Need-returns-2
-returns-2 c = rw (plus (c .before), min-eq-right (le-of-lt (c .if3 .taken)))
-
-returns-3 : tie.Need-returns-3
-returns-3 c =
-    let h = c .if2 .left in
-    rw (minus (c .before), min-eq-left (le-of-lt h)) (toZ-ofZ w32 _ (negated-fits _ h) ∙ negated _ h)
-
-returns-4 : tie.Need-returns-4
-returns-4 c = rw (plus (c .before), min-eq-left (c .if3 .left)) (toZ-pos w32 _ (omega (arith, c .if3 .left)))
-
 pub truncate-i32-spec : {M : Type 1} → statement M
 truncate-i32-spec =
     tie.close
-    (tie.spec (λ c κs. search needs) returns (λ c. search needs) sub-result (λ c κs. search needs) returns-2 (λ c. search needs) returns-3 returns-4)
+    (tie.spec (λ c κs. tt) (λ c. rw (minus (c .before), min-eq-right (c .if2 .taken))) (λ c. search needs) (λ c. negated-fits _ (c .if2 .left))
+    (λ c κs. tt) (λ c. rw (plus (c .before), min-eq-right (le-of-lt (c .if3 .taken)))) (λ c. search needs)
+    (λ c. let h = c .if2 .left in rw (minus (c .before), min-eq-left (le-of-lt h)) (toZ-ofZ w32 _ (negated-fits _ h) ∙ negated _ h))
+    (λ c. rw (plus (c .before), min-eq-left (c .if3 .left)) (toZ-pos w32 _ (omega (arith, c .if3 .left)))))

@@ -12,11 +12,6 @@ use Rattle.ieee754.proofs.convert.truncate_u32.Tie as tie
 held : (c : tie.After-truncate-u64) → toUnsigned 32 (c .before .args .x) ≡ min (c .truncate-u64 .result) (2 ^ 32 - 1)
 held c = rw (c .truncate-u64 .ensures) (narrowed 32 64 _ (lit≤ tt))
 
-returns : tie.Need-returns
-returns c = omega (arith, held (c .before))
-
-returns-2 : tie.Need-returns-2
-returns-2 c = omega (arith, held (c .before))
-
 pub truncate-u32-spec : {M : Type 1} → statement M
-truncate-u32-spec = tie.close (tie.spec (λ c κs. search needs) (λ c. search needs) returns returns-2)
+truncate-u32-spec =
+    tie.close (tie.spec (λ c κs. tt) (λ c. search needs) (λ c. omega (arith, held (c .before))) (λ c. omega (arith, held (c .before))))

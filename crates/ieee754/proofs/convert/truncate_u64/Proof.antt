@@ -19,30 +19,19 @@ held c = rw (c .before .good .0 .1) tt
 number : (c : tie.Else1) → T (not (isNan (c .before .args .x)))
 number c = no-nan _ (c .if1 .left)
 
-returns : tie.Need-returns
-unfolding toUnsigned
-returns c = rw (is-nan _ (c .if1 .taken))
-
-returns-2 : tie.Need-returns-2
-returns-2 c = of-minus 64 _ (sign-bit binary32 _ (held (c .before)) (number (c .before)) ∙ le-leb _ _ (c .if2 .taken))
-
-returns-3 : tie.Need-returns-3
-returns-3 c = let plain = c .before in below-one binary32 _ (held (plain .before)) (plain .if2 .left) 64 (c .if3 .taken)
-
-returns-4 : tie.Need-returns-4
-returns-4 c =
-    let plain = c .before .before in
-    past-width binary32 _ (held (plain .before)) (plain .if2 .left) 64 (number (plain .before)) (c .if4 .taken)
-
 returns-5 : tie.Need-returns-5
 returns-5 c =
-    let plain = c .before .before .before in
+    let s = c .before .before .before in
     let q = c .significand .result in
     let whole : q * 2 ^ 40 % 2 ^ 64 ≡ q * 2 ^ 40 = omega (arith, c .significand .ensures) in
-    rw (whole, c .significand .ensures) (moved binary32 _ (held (plain .before)) (plain .if2 .left) 64 (lit≤ tt) (omega arith) (omega arith) (lit≤ tt))
+    rw (whole, c .significand .ensures) (moved binary32 _ (held (s .before)) (s .if2 .left) 64 (lit≤ tt) (omega arith) (omega arith) (lit≤ tt))
 
 pub truncate-u64-spec : {M : Type 1} → statement M
+unfolding toUnsigned
 truncate-u64-spec =
     tie.close
-    (tie.spec returns number returns-2 returns-3 returns-4 (λ c κs. search needs) (λ c. search needs) (λ c. search needs)
-    (λ c. search needs) returns-5)
+    (tie.spec (λ c. rw (is-nan _ (c .if1 .taken))) number
+    (λ c. of-minus 64 _ (sign-bit binary32 _ (held (c .before)) (number (c .before)) ∙ le-leb _ _ (c .if2 .taken)))
+    (λ c. let s = c .before in below-one binary32 _ (held (s .before)) (s .if2 .left) 64 (c .if3 .taken))
+    (λ c. let s = c .before .before in past-width binary32 _ (held (s .before)) (s .if2 .left) 64 (number (s .before)) (c .if4 .taken))
+    (λ c κs. tt) (λ c. search needs) (λ c. search needs) (λ c. search needs) returns-5)

@@ -1,21 +1,19 @@
--- The laws of `Rounding` for a quotient by 256; the masks are remainders.
+-- The laws of `Whole` for a quotient by 256; the masks are remainders.
 use borrow.Author.Needs.{needs}
-use mathlib.Core.Path.{sym}
-use Prim.Native.Nat.{_/_}
+use mathlib.Core.Path.{_≡_, sym}
+use Prim.Native.Nat.{ℕ, _/_, _%_}
 use native.Mathlib.Omega.{arith}
-use lib.Bits.{and-mask}
-use Rattle.ieee754.proofs.convert.Rounding.{closest-up, closest-down}
+use lib.Bits.{bitAnd, and-mask}
+use Rattle.ieee754.proofs.Whole.{closest-up, closest-down}
 use Rattle.ieee754.proofs.convert.without_last_byte.Statement.{statement}
 use Rattle.ieee754.proofs.convert.without_last_byte.Tie as tie
 
-add-if1 : tie.Need-add-if1
-add-if1 c = let n = c .args .n in omega (arith, and-mask n 8, and-mask (n / 256) 1)
-
-returns : tie.Need-returns
-returns c = let n = c .before .args .n in sym (closest-up n 256 (omega (arith, and-mask n 8, and-mask (n / 256) 1)))
-
-returns-2 : tie.Need-returns-2
-returns-2 c = let n = c .before .args .n in sym (closest-down n 256 (omega (arith, and-mask n 8, and-mask (n / 256) 1)))
+-- what the test adds up
+masks : (n : ℕ) → (bitAnd n 255 ≡ n % 256) × (bitAnd (n / 256) 1 ≡ n / 256 % 2)
+masks n = (and-mask n 8, and-mask (n / 256) 1)
 
 pub without-last-byte-spec : {M : Type 1} → statement M
-without-last-byte-spec = tie.close (tie.spec add-if1 (λ c. search needs) returns returns-2)
+without-last-byte-spec =
+    tie.close
+    (tie.spec (λ c. omega (arith, masks (c .args .n))) (λ c. search needs) (λ c. sym (closest-up _ 256 (omega (arith, masks (c .before .args .n)))))
+    (λ c. sym (closest-down _ 256 (omega (arith, masks (c .before .args .n))))))

@@ -4,17 +4,9 @@ use Rattle.ieee754.proofs.Orders.{less, unequal, both-numbers, zeros-in
 use Rattle.ieee754.proofs.min_max.precedes.Statement.{statement}
 use Rattle.ieee754.proofs.min_max.precedes.Tie as tie
 
-returns-3 : tie.Need-returns-3
-returns-3 c =
-    let s = c .before .before in
-    zeros-in-order _ _ binary32 (rw (s .good .0 .1) tt) (rw (s .good .1 .0 .1) tt) (c .before .if1 .left) (c .if2 .left)
-
 pub precedes-spec : {M : Type 1} → statement M
 precedes-spec =
     tie.close
-    (tie.spec
-    (λ c. less _ _ (c .if1 .taken))
-    (λ c. unequal _ _ (c .before .if1 .left) (c .if2 .taken))
-    (λ c. search (both-numbers _ _ (c .if2 .left)))
-    (λ c. search (both-numbers _ _ (c .if2 .left)))
-    returns-3)
+    (tie.spec (λ c. less _ _ (c .if1 .taken)) (λ c. unequal _ _ (c .before .if1 .left) (c .if2 .taken)) (λ c. both-numbers _ _ (c .if2 .left) .1)
+    (λ c. both-numbers _ _ (c .if2 .left) .0)
+    (λ c. let g = c .before .before .good in zeros-in-order _ _ binary32 (rw (g .0 .1) tt) (rw (g .1 .0 .1) tt) (c .before .if1 .left) (c .if2 .left)))

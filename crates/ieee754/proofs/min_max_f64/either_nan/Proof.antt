@@ -1,15 +1,11 @@
 -- Where x is no NaN the answer is y, a NaN or not.
-use borrow.Author.Needs.{needs}
-use Rattle.ieee754.proofs.Fields.{nan-test}
 use Rattle.ieee754.proofs.Choice.{either-by}
+use Rattle.ieee754.proofs.Fields.{nan-test}
 use Rattle.ieee754.proofs.min_max_f64.either_nan.Statement.{statement}
 use Rattle.ieee754.proofs.min_max_f64.either_nan.Tie as tie
 
-returns : tie.Need-returns
-returns c = simp (either-by, c .quiet .ensures, ← nan-test, c .before .if1 .taken)
-
-returns-2 : tie.Need-returns-2
-returns-2 c = simp (either-by, c .quiet2 .ensures, ← nan-test, c .before .if1 .left)
-
 pub either-nan-spec : {M : Type 1} → statement M
-either-nan-spec = tie.close (tie.spec (λ c κs. search needs) returns (λ c κs. search needs) returns-2)
+either-nan-spec =
+    tie.close
+    (tie.spec (λ c κs. tt) (λ c. simp (either-by, c .quiet .ensures, ← nan-test, c .before .if1 .taken)) (λ c κs. tt)
+    (λ c. simp (either-by, c .quiet2 .ensures, ← nan-test, c .before .if1 .left)))

@@ -1,15 +1,11 @@
 -- Where y is no NaN the answer is y, whatever x is.
-use borrow.Author.Needs.{needs}
-use Rattle.ieee754.proofs.Fields.{nan-test}
 use Rattle.ieee754.proofs.Choice.{number-by}
+use Rattle.ieee754.proofs.Fields.{nan-test}
 use Rattle.ieee754.proofs.min_max_f64.the_number.Statement.{statement}
 use Rattle.ieee754.proofs.min_max_f64.the_number.Tie as tie
 
-returns : tie.Need-returns
-returns c = simp (number-by, c .quiet .ensures, ← nan-test, c .before .if1 .taken)
-
-returns-2 : tie.Need-returns-2
-returns-2 c = simp (number-by, ← nan-test, c .if1 .left)
-
 pub the-number-spec : {M : Type 1} → statement M
-the-number-spec = tie.close (tie.spec (λ c κs. search needs) returns returns-2)
+the-number-spec =
+    tie.close
+    (tie.spec (λ c κs. tt) (λ c. simp (number-by, c .quiet .ensures, ← nan-test, c .before .if1 .taken))
+    (λ c. simp (number-by, ← nan-test, c .if1 .left)))

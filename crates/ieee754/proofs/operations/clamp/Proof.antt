@@ -11,13 +11,6 @@ use Rattle.ieee754.proofs.operations.clamp.Tie as tie
 joined : (c : tie.Joined1) → let a = c .before .args in c .if1 .y ≡ cond (lt (a .x) (a .lo)) (a .lo) (a .x)
 joined c = ⊎-elim (λ w. rw (w .0 .taken) (w .1)) (λ w. rw (w .0 .left) (w .1)) (c .if1 .came)
 
-returns : tie.Need-returns
-unfolding clamp
-returns c = simp (← joined (c .before), c .if2 .taken)
-
-returns-2 : tie.Need-returns-2
-unfolding clamp
-returns-2 c = simp (← joined (c .before), c .if2 .left)
-
 pub clamp-spec : {M : Type 1} → statement M
-clamp-spec = tie.close (tie.spec returns returns-2)
+unfolding clamp
+clamp-spec = tie.close (tie.spec (λ c. simp (← joined (c .before), c .if2 .taken)) (λ c. simp (← joined (c .before), c .if2 .left)))

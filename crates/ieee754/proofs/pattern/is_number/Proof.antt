@@ -3,8 +3,5 @@ use Rattle.ieee754.proofs.NotANumber.{number-bits}
 use Rattle.ieee754.proofs.pattern.is_number.Statement.{statement}
 use Rattle.ieee754.proofs.pattern.is_number.Tie as tie
 
-returns : tie.Need-returns
-returns c = number-bits (c .args .bits)
-
 pub is-number-spec : {M : Type 1} → statement M
-is-number-spec = tie.close (tie.spec returns)
+is-number-spec = tie.close (tie.spec (λ c. number-bits (c .args .bits)))

@@ -1,4 +1,4 @@
--- The law of `Pack`: nothing is shifted out, and the pattern is no NaN's.
+-- The law of `SmallestUnits`: nothing is shifted out, and the pattern is no NaN's.
 use borrow.Author.Needs.{needs}
 use mathlib.Core.Path.{_≡_}
 use Prim.Native.Nat.{_+_, _*_, _%_, _^_, _≤_, _<_}
@@ -8,7 +8,7 @@ use lib.Dec.{lit<, le→leb}
 use lib.Pow.{pow-mono}
 use lib.Ieee.{binary32}
 use Rattle.ieee754.proofs.NotANumber.{number-bits}
-use Rattle.ieee754.proofs.pattern.Pack.{packed-is}
+use Rattle.ieee754.proofs.SmallestUnits.{packed-is}
 use Rattle.ieee754.proofs.pattern.packed.Statement.{statement}
 use Rattle.ieee754.proofs.pattern.packed.Tie as tie
 
@@ -22,12 +22,8 @@ float-from-bits-result c =
     let h : n % 2 ^ 31 ≤ 2139095040 = omega arith in
     rw (unshifted c, ← number-bits n) (le→leb _ _ h)
 
-returns : tie.Need-returns
-returns c =
-    let k = c .args .place in
-    let q = c .args .digits in
-    let small : q * 2 ^ k < 2 ^ 277 = lt-of-le-of-lt (mul-le-mul (c .pre .2) (pow-mono (c .pre .0))) (lit< tt) in
-    rw (unshifted c) (packed-is binary32 q k (c .pre .1) (c .pre .2) small)
-
 pub packed-spec : {M : Type 1} → statement M
-packed-spec = tie.close (tie.spec (λ c. search needs) float-from-bits-result returns)
+packed-spec =
+    tie.close
+    (tie.spec (λ c. search needs) float-from-bits-result
+    (λ c. rw (unshifted c) (packed-is binary32 _ _ (c .pre .1) (c .pre .2) (lt-of-le-of-lt (mul-le-mul (c .pre .2) (pow-mono (c .pre .0))) (lit< tt)))))

@@ -5,8 +5,5 @@ use lib.Pow.{pow-pos}
 use Rattle.ieee754.proofs.pattern.significand.Statement.{statement}
 use Rattle.ieee754.proofs.pattern.significand.Tie as tie
 
-returns : tie.Need-returns
-returns c = rw (and-mask _ 23) (or-shifted-r 1 23 _ (mod-lt _ (pow-pos 23)))
-
 pub significand-spec : {M : Type 1} → statement M
-significand-spec = tie.close (tie.spec returns)
+significand-spec = tie.close (tie.spec (λ c. rw (and-mask _ 23) (or-shifted-r 1 23 _ (mod-lt _ (pow-pos 23)))))

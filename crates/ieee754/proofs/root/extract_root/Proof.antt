@@ -27,37 +27,20 @@ guess-quotient n h = div-lt-iff-lt-mul {k = guess n} (omega arith) .1 (omega ari
 better-quotient : (n : ℕ) → n < 2 ^ 48 → n / better n < 2 ^ 27
 better-quotient n h = div-lt-iff-lt-mul {k = better n} (omega arith) .1 (omega arith)
 
-add-better : tie.Need-add-better Inv-loop μ-loop
-add-better c = omega (arith, guess-quotient (c .args .n) (c .pre))
-
-add-root : tie.Need-add-root Inv-loop μ-loop
-add-root c = omega (arith, guess-quotient (c .args .n) (c .pre), better-quotient (c .args .n) (c .pre))
-
-loop-holds : tie.Need-loop-holds Inv-loop μ-loop
-loop-holds c =
-    let n = c .args .n in
-    (omega (arith, guess-quotient n (c .pre), better-quotient n (c .pre)), heron n (better n) (omega arith))
-
-mul-loop : tie.Need-mul-loop Inv-loop μ-loop
-mul-loop c = let h = c .loop .inv .0 in omega (arith, mul-le-mul h h)
-
 -- a root whose square is above n is above 0
 some : (c : tie.In-loop Inv-loop μ-loop) → 0 < c .before .loop .root
 some c = sq-lt-back {a = 0} (omega (arith, c .loop-test .taken))
-
-loop-less : tie.Need-loop-less Inv-loop μ-loop
-loop-less c = omega (arith, some c)
 
 loop-again : tie.Need-loop-again Inv-loop μ-loop
 loop-again c =
     let one : suc (c .before .loop .root - 1) ≡ c .before .loop .root = omega (arith, some c) in
     (omega arith, rw one (c .loop-test .taken))
 
-mul-t5 : tie.Need-mul-t5 Inv-loop μ-loop
-mul-t5 c = let h = c .before .loop .inv .0 in omega (arith, mul-le-mul h h)
-
 pub extract-root-spec : {M : Type 1} → statement M
 extract-root-spec =
     tie.close
-    (tie.spec Inv-loop μ-loop (λ c. search needs) (λ c. search needs) add-better (λ c. search needs) add-root loop-holds mul-loop some loop-less loop-again
-    mul-t5 (λ c. search needs) (λ c. search needs))
+    (tie.spec Inv-loop μ-loop (λ c. search needs) (λ c. search needs) (λ c. omega (arith, guess-quotient (c .args .n) (c .pre))) (λ c. search needs)
+    (λ c. omega (arith, guess-quotient (c .args .n) (c .pre), better-quotient (c .args .n) (c .pre)))
+    (λ c. let n = c .args .n in (omega (arith, guess-quotient n (c .pre), better-quotient n (c .pre)), heron n (better n) (omega arith)))
+    (λ c. let h = c .loop .inv .0 in omega (arith, mul-le-mul h h)) some (λ c. omega (arith, some c)) loop-again
+    (λ c. let h = c .before .loop .inv .0 in omega (arith, mul-le-mul h h)) (λ c. search needs) (λ c. search needs))

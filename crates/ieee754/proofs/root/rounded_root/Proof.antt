@@ -60,15 +60,6 @@ module _ (c : tie.After-extract-root) where
   squared : (a : ℕ) → a * 2 ^ 126 ≡ c .before .args .digits * 2 ^ w (c .before) → a * 2 ^ 149 ≡ (root * root + rest) * (2 ^ (w (c .before) / 2) * 2 ^ (w (c .before) / 2))
   squared a h = rw is (scaled (c .before) a h)
 
-extract-root-requires : tie.Need-extract-root-requires
-extract-root-requires c κs = rw (whole c) (rad-lt c)
-
-packed-requires : tie.Need-packed-requires
-packed-requires c κs = omega (arith, root-lt (c .before), root-ge (c .before), c .before .before .pre .0)
-
-packed-requires-2 : tie.Need-packed-requires-2
-packed-requires-2 c κs = omega (arith, root-lt (c .before), root-ge (c .before), c .before .before .pre .0)
-
 returns : tie.Need-returns
 returns c a h =
     let x = c .before .before in
@@ -83,5 +74,6 @@ returns-2 c a h =
 pub rounded-root-spec : {M : Type 1} → statement M
 rounded-root-spec =
     tie.close
-    (tie.spec (λ c. search needs) (λ c. search needs) (λ c. search needs) extract-root-requires (λ c. omega (arith, root-lt (c .before))) packed-requires
-    (λ c. omega (arith, root-lt (c .before))) (λ c. omega (arith, root-lt (c .before))) packed-requires-2 returns returns-2)
+    (tie.spec (λ c. search needs) (λ c. search needs) (λ c. search needs) (λ c κs. rw (whole c) (rad-lt c)) (λ c. omega (arith, root-lt (c .before)))
+    (λ c κs. omega (arith, root-lt (c .before), root-ge (c .before), c .before .before .pre .0)) (λ c. omega (arith, root-lt (c .before)))
+    (λ c. omega (arith, root-lt (c .before))) (λ c κs. omega (arith, root-lt (c .before), root-ge (c .before), c .before .before .pre .0)) returns returns-2)

@@ -1,4 +1,4 @@
--- The operands of `Operand`, one by one; a value above 0 is a significand at its place, a subnormal one moved up to it.
+-- The operands of `Cut`, one by one; a value above 0 is a significand at its place, a subnormal one moved up to it.
 use borrow.Author.Needs.{needs}
 use borrow.Author.Tests.{le-leb}
 use mathlib.Core.Path.{_≡_, sym, ap, _∙_}
@@ -15,7 +15,7 @@ use lib.Ieee.Exact.{HasValue}
 use Rattle.ieee754.specs.Root.{rootOf, sqrt}
 use Rattle.ieee754.proofs.Fields.{is-nan, no-nan, sign-bit, significand, significand-is, value, infinite}
 use Rattle.ieee754.proofs.Numbers.{shifted}
-use Rattle.ieee754.proofs.root.Operand.{of-nan, of-zero, of-minus, of-infinity, of-value}
+use Rattle.ieee754.proofs.root.Cut.{of-zero, of-minus, of-value}
 use Rattle.ieee754.proofs.root.sqrt.Statement.{statement}
 use Rattle.ieee754.proofs.root.sqrt.Tie as tie
 
@@ -24,24 +24,6 @@ held c = rw (c .before .good .0 .1) tt
 
 number : (c : tie.Else1) → T (not (isNan (c .before .args .x)))
 number c = no-nan _ (c .if1 .left)
-
-returns : tie.Need-returns
-returns c = of-nan binary32 _ (is-nan _ (c .if1 .taken))
-
-returns-2 : tie.Need-returns-2
-unfolding ofBits
-returns-2 c = of-zero binary32 _ (c .if2 .taken)
-
-returns-3 : tie.Need-returns-3
-unfolding ofBits div
-returns-3 c =
-    let n = c .before .before in
-    sym (of-minus binary32 _ (sign-bit binary32 _ (held n) (number n) ∙ le-leb _ _ (c .if3 .taken)) (c .before .if2 .left))
-
-returns-4 : tie.Need-returns-4
-returns-4 c =
-    let n = c .before .before .before in
-    of-infinity binary32 _ (infinite binary32 _ (held n) (c .before .if3 .left) (number n) (omega arith))
 
 -- x is above 0 and finite
 abbrev x : tie.Else4 → Float
@@ -93,16 +75,7 @@ module _ (c : tie.Then5) where
   subnormal : sqrt binary32 (x (c .before)) ≡ rootOf binary32 b
   subnormal = of-value binary32 _ b (some (c .before)) (rw (c .if5 .taken, mul-one, mod-eq-of-lt small) at (units-of (c .before)))
 
-rounded-root-requires : tie.Need-rounded-root-requires
-rounded-root-requires c κs = rw (whole c) (omega (arith, moved c))
-
-returns-5 : tie.Need-returns-5
-returns-5 c = c .rounded-root .ensures (b (c .before)) (rw (whole (c .before)) (places (c .before))) ∙ sym (subnormal (c .before))
-
 -- ---- a normal x
-
-rounded-root-requires-2 : tie.Need-rounded-root-requires-2
-rounded-root-requires-2 c κs = omega (arith, c .significand .ensures, c .before .before .if4 .left)
 
 returns-6 : tie.Need-returns-6
 returns-6 c =
@@ -117,7 +90,12 @@ returns-6 c =
     (rw (significand-is binary32 e t (pos-of-ne-zero (normal .if5 .left))) at (units-of (normal .before))))
 
 pub sqrt-spec : {M : Type 1} → statement M
+unfolding ofBits div sqrt
 sqrt-spec =
     tie.close
-    (tie.spec returns returns-2 (λ c. number (c .before)) returns-3 returns-4 (λ c. omega (arith, lead c .1)) (λ c. omega (arith, zeros c))
-    (λ c. omega (arith, lead c .1)) rounded-root-requires returns-5 (λ c. search needs) (λ c κs. search needs) rounded-root-requires-2 returns-6)
+    (tie.spec (λ c. rw (is-nan _ (c .if1 .taken))) (λ c. of-zero binary32 _ (c .if2 .taken)) (λ c. number (c .before))
+    (λ c. let n = c .before .before in sym (of-minus binary32 _ (sign-bit binary32 _ (held n) (number n) ∙ le-leb _ _ (c .if3 .taken)) (c .before .if2 .left)))
+    (λ c. let n = c .before .before .before in rw (infinite binary32 _ (held n) (c .before .if3 .left) (number n) (omega arith)))
+    (λ c. omega (arith, lead c .1)) (λ c. omega (arith, zeros c)) (λ c. omega (arith, lead c .1)) (λ c κs. rw (whole c) (omega (arith, moved c)))
+    (λ c. let s = c .before in c .rounded-root .ensures (b s) (rw (whole s) (places s)) ∙ sym (subnormal s)) (λ c. search needs) (λ c κs. tt)
+    (λ c κs. omega (arith, c .significand .ensures, c .before .before .if4 .left)) returns-6)

@@ -1,2 +1,0 @@
--- The laws of rounding.
-mod Rounding

@@ -1,2 +1,0 @@
--- The laws of a pattern that is put together.
-mod Pack

@@ -1,16 +1,17 @@
 -- The fields of a line: cut at a comma (44), counted, sought, and joined again.
-use Prim.Native.Nat.{ℕ, suc, _+_, _-_, _≤_, _<_}
-use native.Mathlib.Nat.{not-suc-le-zero, sub-zero}
+use Prim.Native.Nat.{ℕ, zero, suc, _+_, _-_, _≤_, _<_}
+use native.Mathlib.Nat.{not-suc-le-zero, zero-add}
+use native.Mathlib.Numerals.{add-one}
 use native.Mathlib.Omega.{arith}
 use native.Mathlib.Decide.{decLt}
 use mathlib.Core.Path.{_≡_, refl, sym, ap, _∙_}
 use mathlib.Core.Bool.{Bool, true, false, cond}
 use mathlib.Core.List.{List, [], _∷_, _++_}
 use lib.Dec.{eqb}
-use lib.ListN.{length, getD, take, drop, length-drop}
-use lib.Seq.{take-all}
+use lib.ListN.{length, getD, take, drop, length-drop, drop-of-length-le, List·getD-eq-default}
+use lib.Seq.{take-all, take-nil}
 use borrow.Author.Tests.{eqb-true}
-use Rattle.text.specs.Read.{indexOf, attach, fields, field}
+use Rattle.text.specs.Read.{indexOf, attach, fields, field, fieldEnd}
 use Rattle.text.proofs.Find.{first-part, only-part, found-inside, found-offset, found-below, found-none, found-after}
 
 -- ---- the first comma of a line cuts it: the field before it, and the fields of what follows
@@ -26,70 +27,118 @@ only-field (x ∷ xs) h = only-part 44 fields (λ i. i) (λ i. refl) (λ x xs. r
 
 -- the same in the terms of a loop: at is where a field begins, e the comma found, or the line's end
 module _ (line : List ℕ) (at e : ℕ) (inside : at ≤ length line) (found : e ≡ at + indexOf 44 (drop at line)) where
-  cut : (e ≡ length line → ⊥) → fields (drop at line) ≡ take (e - at) (drop at line) ∷ fields (drop (e + 1) line)
-  cut some = first-field (drop at line) (found-below line at e 44 inside found some) ∙ rw (found-after line at e 44 inside found, found-offset line at e 44 inside found)
+  cut : (e ≡ length line → ⊥) → fields (drop at line) ≡ take (e - at) (drop at line) ∷ fields (drop (suc e) line)
+  cut some =
+      first-field (drop at line) (found-below line at e 44 inside found some)
+      ∙ rw (found-after line at e 44 inside found, found-offset line at e 44 inside found, add-one e)
 
   uncut : e ≡ length line → fields (drop at line) ≡ take (e - at) (drop at line) ∷ []
   uncut none =
       only-field (drop at line) (found-none line at e 44 inside found none) ∙ rw (take-all (e - at) (drop at line) (omega (arith, length-drop at line)))
 
--- ---- a loop that counts fields: n - 1 are counted before place at
-pub record Counting (line : List ℕ) (n at : ℕ) : Type 0 where
-  pub inside : at ≤ length line
-  pub few : n ≤ at + 1
-  pub sum : length (fields line) + 1 ≡ n + length (fields (drop at line))
+-- there is always a field
+some-attach : (x : ℕ) (fs : List (List ℕ)) → 0 < length (attach x fs)
+unfolding attach
+some-attach x [] = omega arith
+some-attach x (f ∷ fs) = omega arith
 
-module _ {line : List ℕ} {n at e : ℕ} (g : Counting line n at) (found : e ≡ at + indexOf 44 (drop at line)) where
-  count-inside : e ≤ length line
-  count-inside = found-inside line at e 44 (g .inside) found
+some-field : (line : List ℕ) → 0 < length (fields line)
+unfolding fields
+some-field [] = omega arith
+some-field (x ∷ xs) = go (eqb x 44)
+  where
+    go : (t : Bool) → 0 < length (cond t ([] ∷ fields xs) (attach x (fields xs)))
+    go true = omega arith
+    go false = some-attach x (fields xs)
 
-  pub count-turn : (e ≡ length line → ⊥) → Counting line (n + 1) (e + 1)
-  count-turn some = record {
-    inside = omega (arith, count-inside);
-    few = omega (arith, g .few);
-    sum = omega (arith, g .sum, ap length (cut line at e (g .inside) found some));
-  }
+-- ---- a cursor over the fields, from left to right
 
-  pub count-end : e ≡ length line → n ≡ length (fields line)
-  count-end none = omega (arith, g .sum, ap length (uncut line at e (g .inside) found none))
+-- the bytes from one place to another
+abbrev pub between : ℕ → ℕ → List ℕ → List ℕ
+between at e line = take (e - at) (drop at line)
 
--- ---- a loop that seeks field k: j fields lie before place at
-pub record Seeking (line : List ℕ) (k at j : ℕ) : Type 0 where
-  pub inside : at ≤ length line
-  pub passed : j ≤ k
-  pub left : field k line ≡ getD (fields (drop at line)) (k - j) []
+-- the place at which field k of a line starts: past the line's end where there are fewer
+unfoldable pub fieldStart : ℕ → List ℕ → ℕ
+fieldStart zero line = 0
+fieldStart (suc k) line = suc (fieldEnd (fieldStart k line) line)
 
-pub seek-begin : (line : List ℕ) (k : ℕ) → Seeking line k 0 0
-unfolding field
-seek-begin line k = record { inside = omega arith; passed = omega arith; left = rw sub-zero }
+module _ (line : List ℕ) where
+  -- what is known of a place after k fields: the others start there, or there are no others
+  data Reached (k at : ℕ) : Type 0 where
+    more : at ≤ length line → ((j : ℕ) → field (k + j) line ≡ getD (fields (drop at line)) j []) → length (fields line) ≡ k + length (fields (drop at line))
+        → Reached k at
+    none : length line < at → length (fields line) ≤ k → Reached k at
 
-module _ {line : List ℕ} {k at j e : ℕ} (g : Seeking line k at j) (found : e ≡ at + indexOf 44 (drop at line)) where
-  seek-inside : e ≤ length line
-  seek-inside = found-inside line at e 44 (g .inside) found
-
-  pub seek-turn : j < k → (e ≡ length line → ⊥) → Seeking line k (e + 1) (j + 1)
-  seek-turn h some =
-      let next : k - j ≡ suc (k - (j + 1)) = omega arith in
-      record {
-        inside = omega (arith, seek-inside);
-        passed = omega arith;
-        left = g .left ∙ rw (cut line at e (g .inside) found some, next);
-      }
-
-  pub seek-none : j < k → e ≡ length line → [] ≡ field k line
-  seek-none h none =
-      let next : k - j ≡ suc (k - (j + 1)) = omega arith in
-      sym (g .left ∙ rw (uncut line at e (g .inside) found none, next))
-
-  pub seek-end : k ≤ j → take (e - at) (drop at line) ≡ field k line
-  seek-end h = sym (g .left ∙ go (decLt e (length line)))
+  advance : (k at : ℕ) → Reached k at → Reached (suc k) (suc (fieldEnd at line))
+  unfolding fieldEnd
+  advance k at (none past few) = none (omega arith) (omega arith)
+  advance k at (more inside same total) = go (decLt e (length line))
     where
-      last : k - j ≡ 0
-      last = omega (arith, g .passed)
+      e : ℕ
+      e = at + indexOf 44 (drop at line)
 
-      go : Dec (e < length line) → getD (fields (drop at line)) (k - j) [] ≡ take (e - at) (drop at line)
-      go (yes some) = rw (cut line at e (g .inside) found (λ none. omega arith), last)
-      go (no none) = rw (uncut line at e (g .inside) found (omega (arith, seek-inside)), last)
+      within : e ≤ length line
+      within = found-inside line at e 44 inside refl
+
+      go : Dec (e < length line) → Reached (suc k) (suc e)
+      go (yes some) =
+          let c = cut line at e inside refl (λ h. omega arith) in
+          let next : (j : ℕ) → suc k + j ≡ k + suc j = (λ j. omega arith) in
+          more (omega arith) (λ j. ap (λ (n : ℕ). field n line) (next j) ∙ same (suc j) ∙ rw c) (omega (arith, total, ap length c))
+      go (no over) = none (omega arith) (omega (arith, total, ap length (uncut line at e inside refl (omega (arith, within)))))
+
+  reached : (k : ℕ) → Reached k (fieldStart k line)
+  unfolding fieldStart field
+  reached zero = more (omega arith) (λ j. rw zero-add) (omega arith)
+  reached (suc k) = advance k (fieldStart k line) (reached k)
+
+  -- field k lies between the place at which it starts and its end
+  field-at : (k : ℕ) → between (fieldStart k line) (fieldEnd (fieldStart k line) line) line ≡ field k line
+  unfolding fieldEnd field
+  field-at k = go (reached k)
+    where
+      at : ℕ
+      at = fieldStart k line
+
+      end : ℕ
+      end = fieldEnd at line
+
+      here : (inside : at ≤ length line) → Dec (end < length line) → between at end line ≡ getD (fields (drop at line)) 0 []
+      here inside (yes some) = rw (cut line at end inside refl (λ h. omega arith))
+      here inside (no over) = rw (uncut line at end inside refl (omega (arith, found-inside line at end 44 inside refl)))
+
+      go : Reached k at → between at end line ≡ field k line
+      go (more inside same total) =
+          let k-is : k + 0 ≡ k = omega arith in
+          here inside (decLt end (length line)) ∙ sym (same 0) ∙ ap (λ (n : ℕ). field n line) k-is
+      go (none past few) = rw (drop-of-length-le line {i = at} (omega arith), take-nil) (sym (List·getD-eq-default (fields line) [] few))
+
+  -- a field is the last exactly where its end is the line's
+  last-end : (k at : ℕ) → Reached k at → fieldEnd at line ≡ length line → length (fields line) ≡ suc k
+  unfolding fieldEnd
+  last-end k at (more inside same total) h = omega (arith, total, ap length (uncut line at _ inside refl h))
+  last-end k at (none past few) h = absurd (omega (arith, h))
+
+  other-end : (k at : ℕ) → Reached k at → (fieldEnd at line ≡ length line → ⊥) → length (fields line) ≡ suc k → ⊥
+  unfolding fieldEnd
+  other-end k at (more inside same total) h e =
+      omega (arith, total, ap length (cut line at _ inside refl h), some-field (drop (suc (fieldEnd at line)) line))
+  other-end k at (none past few) h e = omega arith
+
+  -- the cursor in the terms of the code: at is where field k starts, and e is its end
+  module _ (k : ℕ) {at e : ℕ} (starts : fieldStart k line ≡ at) (ends : e ≡ fieldEnd at line) where
+    pub next-starts : fieldStart (suc k) line ≡ e + 1
+    unfolding fieldStart
+    next-starts = rw (starts, ← ends) (sym (add-one e))
+
+    pub field-here : between at e line ≡ field k line
+    field-here = rw (ends, ← starts) (field-at k)
+
+    pub field-last : e ≡ length line → length (fields line) ≡ suc k
+    field-last h = last-end k at (rw starts at (reached k)) (sym ends ∙ h)
+
+    pub field-not-last : (e ≡ length line → ⊥) → length (fields line) ≡ suc k → ⊥
+    field-not-last h = other-end k at (rw starts at (reached k)) (λ z. h (ends ∙ z))
 
 -- ---- fields and the line that they stand in
 
@@ -104,20 +153,6 @@ unfolding attach
 joined-attach x [] = refl
 joined-attach x (f ∷ []) = refl
 joined-attach x (f ∷ g ∷ fs) = refl
-
-some-attach : (x : ℕ) (fs : List (List ℕ)) → 0 < length (attach x fs)
-unfolding attach
-some-attach x [] = omega arith
-some-attach x (f ∷ fs) = omega arith
-
-some-field : (line : List ℕ) → 0 < length (fields line)
-unfolding fields
-some-field [] = omega arith
-some-field (x ∷ xs) = go (eqb x 44)
-  where
-    go : (t : Bool) → 0 < length (cond t ([] ∷ fields xs) (attach x (fields xs)))
-    go true = omega arith
-    go false = some-attach x (fields xs)
 
 joined-comma : (fs : List (List ℕ)) → 0 < length fs → joined ([] ∷ fs) ≡ 44 ∷ joined fs
 joined-comma [] h = absurd (not-suc-le-zero h)

@@ -48,6 +48,14 @@ fields (x ∷ xs) = cond (eqb x (code ",")) ([] ∷ fields xs) (attach x (fields
 unfoldable pub field : ℕ → List ℕ → List ℕ
 field k line = getD (fields line) k []
 
+-- the end of the field that starts at a place of a line: the place of the next comma, or the line's end
+unfoldable pub fieldEnd : ℕ → List ℕ → ℕ
+fieldEnd at line = at + indexOf (code ",") (drop at line)
+
+-- exactly n fields
+abbrev pub hasFields : ℕ → List ℕ → Bool
+hasFields n line = eqb (length (fields line)) n
+
 -- ---- numbers
 
 -- what a digit stands for: 0 to 9, and 10 to 15 for a to f; 16 for any other byte

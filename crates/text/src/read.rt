@@ -54,37 +54,12 @@ pub fn line_end(text: &[u8], at: usize) -> usize
     if e < text.len() { e + 1 } else { e }
 }
 
-pub fn field_count(line: &[u8]) -> usize
-    ensures { λ r. ⌜ r ≡ length (Read.fields (now (line .entry))) ⌝ }
+// The end of the field that starts at `at`: the place of the next comma, or the line's end.
+pub fn field_end(line: &[u8], at: usize) -> usize
+    ensures { λ r. ⌜ r ≡ Read.fieldEnd at (now (line .entry)) ⌝ }
+    ensures { λ r. ⌜ (at ≤ r) × (r ≤ max at (length (now (line .entry)))) ⌝ }
 {
-    let mut n = 1;
-    let mut at = 0;
-    loop {
-        let e = find(line, at, b',');
-        if e == line.len() {
-            return n;
-        }
-        at = e + 1;
-        n += 1;
-    }
-}
-
-// Field k of a line, counted from 0; empty where there are fewer.
-pub fn field(line: &[u8], k: usize) -> &[u8]
-    ensures { λ r. ⌜ now r ≡ Read.field k (now (line .entry)) ⌝ }
-{
-    let mut at = 0;
-    let mut j = 0;
-    while j < k {
-        let e = find(line, at, b',');
-        if e == line.len() {
-            return &line[..0];
-        }
-        at = e + 1;
-        j += 1;
-    }
-    let e = find(line, at, b',');
-    &line[at..e]
+    find(line, at, b',')
 }
 
 // What a digit stands for; 16 for a byte that is none.

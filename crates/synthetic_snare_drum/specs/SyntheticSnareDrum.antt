@@ -54,7 +54,7 @@ init self «sample_rate_hz» = call (ask (isSampleRate «sample_rate_hz») 1 0) 
 
 -- ---- the lines of `render` before its loop
 
--- what the loop reads and does not change; size is `out.len()`. The interpolator's value is the voice's own, so its increment alone is kept
+-- what stays the same over the block; size is `out.len()`. The interpolator's increment does: its value is the voice's sustain_gain itself
 unfoldable pub settings : SyntheticSnareDrum → Knobs → ℕ → Settings
 settings self k size =
     let rate = self .«sample_rate_hz» in
@@ -62,9 +62,10 @@ settings self k size =
     let snappy = k .snappy in
     let «decay_xt» = decay ⊗ (decimal 1 0 ⊕ decay ⊗ (decay ⊖ decimal 1 0)) in
     let «fm_amount» = k .«fm_amount» ⊗ k .«fm_amount» in
-    let «drum_pitch» = neg «decay_xt» ⊗ decimal 72 0 ⊖ «fm_amount» ⊗ decimal 12 0 ⊕ snappy ⊗ decimal 7 0 in
-    let «drum_decay» = decimal 1 0 ⊖ decimal 1 0 ⊘ (decimal 15 3 ⊗ rate) ⊗ ratio «drum_pitch» in
-    let «snare_decay» = decimal 1 0 ⊖ decimal 1 0 ⊘ (decimal 1 2 ⊗ rate) ⊗ ratio (neg decay ⊗ decimal 60 0 ⊖ snappy ⊗ decimal 7 0) in
+    let semitones = neg «decay_xt» ⊗ decimal 72 0 ⊖ «fm_amount» ⊗ decimal 12 0 ⊕ snappy ⊗ decimal 7 0 in
+    let «drum_decay» = decimal 1 0 ⊖ decimal 1 0 ⊘ (decimal 15 3 ⊗ rate) ⊗ ratio semitones in
+    let semitones = neg decay ⊗ decimal 60 0 ⊖ snappy ⊗ decimal 7 0 in
+    let «snare_decay» = decimal 1 0 ⊖ decimal 1 0 ⊘ (decimal 1 2 ⊗ rate) ⊗ ratio semitones in
     let «fm_decay» = decimal 1 0 ⊖ decimal 1 0 ⊘ (decimal 7 3 ⊗ rate) in
     let snappy = snappy ⊗ decimal 11 1 ⊖ decimal 5 2 in
     let snappy = clamp snappy (decimal 0 0) (decimal 1 0) in
@@ -101,7 +102,7 @@ tuned self b =
       «snare_lp» = Svf.setFQ (self .«snare_lp») «snare_f_max» (decimal 5 1 ⊕ decimal 2 0 ⊗ b .snappy) Fast;
     }
 
--- what stands under `if trigger {`
+-- what stands under `if trigger {`, with a u32 for `as i32`
 unfoldable pub triggered : SyntheticSnareDrum → Float → Float → SyntheticSnareDrum
 triggered self accent decay =
     let «snare_amplitude» = decimal 3 1 ⊕ decimal 7 1 ⊗ accent in
@@ -120,11 +121,7 @@ triggered self accent decay =
 
 -- ---- one turn of the loop
 
--- `self.drum_amplitude > 0.03 || !(size & 1) != 0`: the not is of the 64 bits of a usize
-unfoldable pub drumDecays : Float → ℕ → Bool
-drumDecays «drum_amplitude» size = lt (decimal 3 2) «drum_amplitude» || not (eqb (2 ^ 64 - 1 - bitAnd size 1) 0)
-
--- `if reset_noise_amount > 0.1 {`: what is done to each phase. The Rust takes off 1.0 at most once, so a phase may leave the range from 0.0 to 1.0
+-- `if reset_noise_amount > 0.1 {` and its `else`, for either phase: no wrap, 1.0 is taken off at most once
 unfoldable pub reset : Float → Float → Float → Float
 reset «reset_noise_amount» «reset_noise» phase =
     cond (lt (decimal 1 1) «reset_noise_amount»)
@@ -142,12 +139,13 @@ step b size s =
     let self = s .voice in
     let phase₀ = getD (self .phase) 0 nan in
     let phase₁ = getD (self .phase) 1 nan in
-    -- `self.snare_amplitude = sustain_gain.next();` steps the voice's own value: in the Rust it comes back when the interpolator is dropped
+    -- `if sustain {`: `sustain_gain.next()` steps the voice's sustain_gain, which stays as it is past the `else`
     let sustain = b .sustain in
     let next = ParameterInterpolator.next (record { value = self .«sustain_gain»; increment = b .increment }) .value in
     let «sustain_gain» = cond sustain next (self .«sustain_gain») in
-    let factor = cond (drumDecays (self .«drum_amplitude») size) (b .«drum_decay») (decimal 1 0) in
-    let «drum_amplitude» = cond sustain next (self .«drum_amplitude» ⊗ factor) in
+    -- `if self.drum_amplitude > 0.03 || !(size & 1) != 0 {`: the not is of the 64 bits of a usize
+    let decays = lt (decimal 3 2) (self .«drum_amplitude») || not (eqb (2 ^ 64 - 1 - bitAnd size 1) 0) in
+    let «drum_amplitude» = cond sustain next (self .«drum_amplitude» ⊗ cond decays (b .«drum_decay») (decimal 1 0)) in
     -- `if self.hold_counter != 0 {`, and `self.hold_counter -= 1;`, which leaves a 0 here as it is
     let «hold_counter» = cond sustain (self .«hold_counter») (self .«hold_counter» - 1) in
     let decayed = cond (eqb (self .«hold_counter») 0) (self .«snare_amplitude» ⊗ b .«snare_decay») (self .«snare_amplitude») in

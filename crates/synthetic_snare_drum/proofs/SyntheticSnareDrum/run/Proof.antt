@@ -24,7 +24,7 @@ again c =
     rw (c .before .step .ensures _) at (turn _ _ _ _ _ _ _ (l .inv) (omega (arith, l .inv .long)))
 
 returns : tie.Need-returns Inv-loop μ-loop
-returns c = let e = end-source _ _ _ _ _ _ (c .before .loop .inv) (c .loop-test .left) in (refl, e)
+returns c = let e = end-source _ _ _ _ _ _ (c .before .loop .inv) (c .loop-test .left) in (refl, (rw (← e .0), (rw (← e .0), e .1)))
 
 pub run-spec : {M : Type 1} → statement M
 run-spec =

@@ -1,7 +1,4 @@
 -- The laws of `cue_sheet` beside the proofs of its functions.
-pub mod FirstLines
-mod FivePatterns
-pub mod Judging
-mod NotANumber
+mod Letter
+mod Cursor
 pub mod Questions
-mod Voices

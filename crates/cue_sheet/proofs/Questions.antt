@@ -1,29 +1,51 @@
--- What the questions of a line show of the cue that it stands for.
-use Prim.Native.Nat.{ℕ, zero, suc, _≤_, _<_}
+-- What the number of a line's first failed question shows: what the line says, and of a cue that every question is passed.
+use Prim.Native.Nat.{ℕ, zero, suc, _-_, _≤_, _<_}
+use Prim.Native.Char.{code}
 use native.Mathlib.Omega.{arith}
 use mathlib.Core.Path.{_≡_, refl, sym, ap, _∙_}
 use mathlib.Core.Bool.{Bool, true, false, cond}
-use mathlib.Core.List.{List, _∷_}
-use lib.Dec.{ltb, leb}
+use mathlib.Core.List.{List}
+use lib.Dec.{ltb, leb, eqb}
 use lib.Ieee.{Float}
-use borrow.Author.Tests.{lt-ltb, ltb-true, leb-true}
-use Rattle.refusal.specs.Refusal.{number, answerNumber, isFrequency, isUnit, isBassDecay}
-use Rattle.refusal.specs.declared.Refusal.{Refusal}
-use Rattle.refusal.specs.declared.Answer.{Answer}
-use Rattle.refusal.specs.declared.Answer.the-variants.{Accepted, Refused}
-use Rattle.refusal.proofs.ByNumber.{passed, zero-of, arm-refused}
-use Rattle.cue_sheet.specs.CueLine.{strike, refused, answered, float, cueOf, isDecay, knobsRefusal, fieldsRefusal, readFields, onFields, readCue}
-use Rattle.cue_sheet.specs.Sheet.{onCue, strikesOf}
-use Rattle.cue_sheet.specs.declared.Cue.{Cue}
-use Rattle.cue_sheet.specs.declared.Cue.the-variants.{Bass, Snare, SyntheticSnare, Hihat}
-use Rattle.cue_sheet.specs.declared.Voice.{Voice}
-use Rattle.cue_sheet.specs.declared.Voice.the-variants as Voice
-use Rattle.cue_sheet.specs.declared.Patterns.{Patterns}
-use Rattle.cue_sheet.specs.declared.CueFields.{CueFields}
-use Rattle.cue_sheet.specs.declared.Fields.{Fields}
-use Rattle.cue_sheet.specs.declared.Fields.the-variants.{Read, Malformed}
+use borrow.Author.Tests.{ltb-true, leb-true}
+use Rattle.refusal.specs.Refusal.{ask, unlessRefused, isFrequency, isUnit, isBassDecay}
+use Rattle.refusal.proofs.ByNumber as ByNumber
+use Rattle.refusal.proofs.ByNumber.{passed}
+use Rattle.cue_sheet.specs.Answer.{number, askedNumber, Told, says, refused}
+use Rattle.cue_sheet.specs.CueLine.{Strike, wellFormed, askDecay, knobsRefusal, cueRefusal, cueOf, readFields, readCue}
+use Rattle.cue_sheet.specs.declared.answer.SheetRefusal.{SheetRefusal}
+use Rattle.cue_sheet.specs.declared.answer.SheetRefusal.the-variants.{Knobs, FirstLine, CueLine, CueStart, CueCount, BufferLength}
+use Rattle.cue_sheet.specs.declared.answer.Asked.{Asked}
+use Rattle.cue_sheet.specs.declared.answer.Asked.the-variants.{Accepted, Refused}
+use Rattle.cue_sheet.specs.declared.line.Cue.{Cue}
+use Rattle.cue_sheet.specs.declared.line.Cue.the-variants.{Bass, Snare, SyntheticSnare, Hihat}
+use Rattle.cue_sheet.specs.declared.line.Fields.{Fields}
 
--- knobs that have passed their questions; `decays` is that of decay
+-- a refusal's number is not 0; the highest is 11
+pub numbered : (r : SheetRefusal) → (0 < number r) × (number r ≤ 11)
+numbered (Knobs r) = ByNumber.refused r
+numbered FirstLine = omega arith
+numbered CueLine = omega arith
+numbered CueStart = omega arith
+numbered CueCount = omega arith
+numbered BufferLength = omega arith
+
+-- ---- what a line says, by the answer to its questions
+module _ (length cues leastStart : ℕ) (line : List ℕ) {a : Asked} (known : askedNumber a ≡ cueRefusal length cues leastStart (readFields line)) where
+  pub line-refused : {r : SheetRefusal} → a ≡ Refused r → refused (number r) ≡ readCue length cues leastStart line
+  unfolding readCue
+  line-refused {r} e =
+      let same : number r ≡ cueRefusal length cues leastStart (readFields line) = rw e at known in
+      let some : cueRefusal length cues leastStart (readFields line) ≡ suc (number r - 1) = omega (arith, numbered r .0) in
+      let one-less : number r ≡ suc (number r - 1) = omega (arith, numbered r .0) in
+      rw some (ap refused one-less)
+
+  pub line-accepted : a ≡ Accepted
+      → says (record { start = readFields line .start .value; cue = cueOf (readFields line) }) ≡ readCue length cues leastStart line
+  unfolding readCue
+  line-accepted e = let none : 0 ≡ cueRefusal length cues leastStart (readFields line) = rw e at known in rw (← none)
+
+-- ---- knobs that have passed their questions; `decays` is that of decay
 pub record KnobsIn (decays : Float → Bool) (accent f0 a decay c : Float) : Type 0 where
   pub frequency : isFrequency f0 ≡ true
   pub accent-in : isUnit accent ≡ true
@@ -37,84 +59,74 @@ KnobsOf (Snare accent f0 tone decay snappy) = KnobsIn isUnit accent f0 tone deca
 KnobsOf (SyntheticSnare accent f0 fmAmount decay snappy) = KnobsIn isUnit accent f0 fmAmount decay snappy
 KnobsOf (Hihat accent f0 tone decay noisiness) = KnobsIn isUnit accent f0 tone decay noisiness
 
-pub knobs-in : (v : Voice) (k : Patterns) → knobsRefusal v k ≡ 0
-    → KnobsIn (isDecay v) (float (k .accent)) (float (k .f0)) (float (k .a)) (float (k .decay)) (float (k .c))
-unfolding knobsRefusal
-knobs-in v k h =
+knobs-in : (f : Fields) → knobsRefusal f ≡ 0 → KnobsOf (cueOf f)
+unfolding knobsRefusal askDecay cueOf
+knobs-in f h =
     let third = passed (isFrequency _) 3 _ (omega arith) h in
     let fourth = passed (isUnit _) 4 _ (omega arith) (third .1) in
-    let x = passed (isUnit _) 5 _ (omega arith) (fourth .1) in
-    let y = passed (isDecay v _) 5 _ (omega arith) (x .1) in
-    let z = passed (isUnit _) 5 _ (omega arith) (y .1) in
-    record { frequency = third .0; accent-in = fourth .0; a-in = x .0; decay-in = y .0; c-in = z .0 }
+    let a = passed (isUnit (f .a .value)) 5 _ (omega arith) (fourth .1) in
+    go (eqb (f .voice) (code "b")) (eqb (f .voice) (code "s")) (eqb (f .voice) (code "y")) (third .0) (fourth .0) (a .0) (a .1)
+  where
+    accent : Float
+    accent = f .accent .value
 
-cue-knobs : (v : Voice) (k : Patterns) → knobsRefusal v k ≡ 0 → KnobsOf (cueOf v k)
-unfolding cueOf isDecay
-cue-knobs Voice.Bass k h = knobs-in Voice.Bass k h
-cue-knobs Voice.Snare k h = knobs-in Voice.Snare k h
-cue-knobs Voice.SyntheticSnare k h = knobs-in Voice.SyntheticSnare k h
-cue-knobs Voice.Hihat k h = knobs-in Voice.Hihat k h
+    f0 : Float
+    f0 = f .f0 .value
 
--- ---- a line by what the code finds out about it
-module _ (length cues leastStart : ℕ) (line : List ℕ) {x : Fields} (f : CueFields) (few : cues < 64) (fields : x ≡ readFields line) (known : x ≡ Read f) where
-  asked-all : readCue length cues leastStart line ≡ answered f (fieldsRefusal length leastStart f)
-  unfolding readCue onFields
-  asked-all = rw (lt-ltb cues 64 few, sym fields ∙ known)
+    tone : Float
+    tone = f .a .value
 
-  pub line-refused : {a : Answer} {r : Refusal} → answerNumber a ≡ fieldsRefusal length leastStart f → a ≡ Refused r
-      → refused (number r) ≡ readCue length cues leastStart line
-  line-refused {a} {r} known e =
-      let n : number r ≡ fieldsRefusal length leastStart f = sym (ap answerNumber e) ∙ known in
-      sym (asked-all ∙ arm-refused _ _ a _ known r e ∙ ap refused (sym n))
+    decay : Float
+    decay = f .decay .value
 
-  pub line-accepted : {cue : Cue} → cue ≡ cueOf (f .voice) (f .patterns) → fieldsRefusal length leastStart f ≡ 0 → strike (f .start) cue ≡ readCue length cues leastStart line
-  line-accepted made h = sym (asked-all ∙ rw (h, made))
+    last : Float
+    last = f .c .value
 
-fields-passed : (length leastStart : ℕ) (f : CueFields) → fieldsRefusal length leastStart f ≡ 0
-    → (f .start < length) × (leastStart ≤ f .start) × (knobsRefusal (f .voice) (f .patterns) ≡ 0)
-unfolding fieldsRefusal
-fields-passed length leastStart f h =
-    let below = passed (ltb (f .start) length) 9 _ (omega arith) h in
-    let rising = passed (leb leastStart (f .start)) 9 _ (omega arith) (below .1) in
-    (ltb-true (f .start) length (below .0), leb-true leastStart (f .start) (rising .0), rising .1)
+    from : (decays : Float → Bool) → isFrequency f0 ≡ true → isUnit accent ≡ true → isUnit tone ≡ true
+        → ask (decays decay) 5 (ask (isUnit last) 5 0) ≡ 0 → KnobsIn decays accent f0 tone decay last
+    from decays p q r h =
+        let d = passed (decays decay) 5 _ (omega arith) h in
+        record { frequency = p; accent-in = q; a-in = r; decay-in = d .0; c-in = passed (isUnit last) 5 _ (omega arith) (d .1) .0 }
 
-pub line-knobs : (length leastStart : ℕ) (f : CueFields) {a : Answer} → answerNumber a ≡ fieldsRefusal length leastStart f → a ≡ Accepted → knobsRefusal (f .voice) (f .patterns) ≡ 0
-line-knobs length leastStart f known e = fields-passed length leastStart f (zero-of _ _ known e) .2
+    go : (b s y : Bool) → isFrequency f0 ≡ true → isUnit accent ≡ true → isUnit tone ≡ true
+        → cond b (ask (isBassDecay decay) 5 (ask (isUnit last) 5 0)) (ask (isUnit decay) 5 (ask (isUnit last) 5 0)) ≡ 0
+        → KnobsOf (cond b (Bass accent f0 tone decay last)
+        (cond s (Snare accent f0 tone decay last) (cond y (SyntheticSnare accent f0 tone decay last) (Hihat accent f0 tone decay last))))
+    go true s y p q r h = from isBassDecay p q r h
+    go false true y p q r h = from isUnit p q r h
+    go false false true p q r h = from isUnit p q r h
+    go false false false p q r h = from isUnit p q r h
 
 -- ---- a line that stands for a cue has passed every question
-pub record Passed (length cues leastStart : ℕ) (line : List ℕ) (start : ℕ) (cue : Cue) : Type 0 where
+pub record Passed (length cues leastStart : ℕ) (s : Strike) : Type 0 where
   pub few : cues < 64
-  pub inside : start < length
-  pub least : leastStart ≤ start
-  pub knobs : KnobsOf cue
-  pub listed : (lines : List (List ℕ)) → strikesOf (line ∷ lines) ≡ record { start = start; cue = cue } ∷ strikesOf lines
+  pub inside : s .start < length
+  pub least : leastStart ≤ s .start
+  pub knobs : KnobsOf (s .cue)
 
-pub cue-passed : (length cues leastStart : ℕ) (line : List ℕ) {start : ℕ} {cue : Cue} → readCue length cues leastStart line ≡ strike start cue
-    → Passed length cues leastStart line start cue
-unfolding readCue onFields strikesOf onCue
-cue-passed length cues leastStart line {start} {cue} h = go (ltb cues 64) (readFields line) refl refl h
+pub cue-passed : (length cues leastStart : ℕ) (line : List ℕ) {s : Strike} → readCue length cues leastStart line ≡ says s → Passed length cues leastStart s
+unfolding readCue cueRefusal
+cue-passed length cues leastStart line {s} h = go (cueRefusal length cues leastStart f) refl h
   where
-    never : {n : ℕ} → refused n ≡ strike start cue → Passed length cues leastStart line start cue
-    never e = let z : _≡_ {A = ℕ} 0 1 = cc in absurd (omega arith)
+    f : Fields
+    f = readFields line
 
-    from : (f : CueFields) (n : ℕ) → ltb cues 64 ≡ true → readFields line ≡ Read f → fieldsRefusal length leastStart f ≡ n → answered f n ≡ strike start cue
-        → Passed length cues leastStart line start cue
-    from f zero t r q e =
-        let p = fields-passed length leastStart f q in
-        let start-is : f .start ≡ start = cc in
-        let cue-is : cueOf (f .voice) (f .patterns) ≡ cue = cc in
+    made : Strike
+    made = record { start = f .start .value; cue = cueOf f }
+
+    all : cueRefusal length cues leastStart f ≡ 0 → Passed length cues leastStart made
+    all z =
+        let tenth = passed (ltb cues 64) 10 _ (omega arith) z in
+        let eighth = passed (wellFormed f) 8 _ (omega arith) (tenth .1) in
+        let below = passed (ltb (f .start .value) length) 9 _ (omega arith) (eighth .1) in
+        let rising = passed (leb leastStart (f .start .value)) 9 _ (omega arith) (below .1) in
         record {
-          few = ltb-true cues 64 t;
-          inside = omega (arith, p .0);
-          least = omega (arith, p .1);
-          knobs = rw cue-is at (cue-knobs (f .voice) (f .patterns) (p .2));
-          listed = λ lines. rw (r, start-is, cue-is);
+          few = ltb-true cues 64 (tenth .0);
+          inside = ltb-true (f .start .value) length (below .0);
+          least = leb-true leastStart (f .start .value) (rising .0);
+          knobs = knobs-in f (rising .1);
         }
-    from f (suc n) t r q e = never e
 
-    go : (t : Bool) (x : Fields) → ltb cues 64 ≡ t → readFields line ≡ x
-        → cond t (onFields x λ f. answered f (fieldsRefusal length leastStart f)) (refused 10) ≡ strike start cue
-        → Passed length cues leastStart line start cue
-    go true (Read f) t r e = from f (fieldsRefusal length leastStart f) t r refl e
-    go true Malformed t r e = never e
-    go false x t r e = never e
+    go : (n : ℕ) → cueRefusal length cues leastStart f ≡ n → unlessRefused n (says made) (refused n) ≡ says s → Passed length cues leastStart s
+    go zero z e = let same : made ≡ s = cc in rw same at (all z)
+    go (suc n) z e = let never : _≡_ {A = ℕ} 0 1 = cc in absurd (omega arith)

@@ -1,131 +1,112 @@
--- A line of a cue sheet after the first, `start,voice,accent,f0,a,decay,c`: its fields, its cue, and the questions that it must pass. Definitions only.
+-- A line of a cue sheet after the first, `start,voice,accent,f0,a,decay,c`: its fields, the questions that it must pass, and its cue. Definitions only.
 use Prim.Native.Nat.{ℕ}
 use Prim.Native.Char.{code}
-use mathlib.Core.Bool.{Bool, cond, _&&_}
+use mathlib.Core.Bool.{Bool, true, false, cond, _&&_, _||_}
 use mathlib.Core.List.{List, [], _∷_}
 use lib.Dec.{ltb, leb, eqb}
-use lib.ListN.{length}
 use lib.Ieee.{Float, binary32, ofBits}
-use Rattle.refusal.specs.Refusal.{number, ask, unlessRefused, isFrequency, isUnit, isBassDecay}
-use Rattle.text.specs.Read.{ended, body, fields, field, decimal, pattern}
+use Rattle.ieee754.specs.Single.{decimal as decimalFloat}
+use Rattle.refusal.specs.Refusal.{ask, unlessRefused, isFrequency, isUnit, isBassDecay}
+use Rattle.text.specs.Read.{ended, body, field, hasFields, decimal, pattern}
 use Rattle.text.specs.declared.read.Number.{Number}
 use Rattle.text.specs.declared.read.Number.the-variants.{Value, Invalid}
-use Rattle.cue_sheet.specs.declared.Cue.{Cue}
-use Rattle.cue_sheet.specs.declared.Cue.the-variants as Cue
-use Rattle.cue_sheet.specs.declared.Line.{Line}
-use Rattle.cue_sheet.specs.declared.Line.the-variants as Line
-use Rattle.cue_sheet.specs.declared.Voice.{Voice}
-use Rattle.cue_sheet.specs.declared.Voice.the-variants.{Bass, Snare, SyntheticSnare, Hihat}
-use Rattle.cue_sheet.specs.declared.VoiceField.{VoiceField}
-use Rattle.cue_sheet.specs.declared.VoiceField.the-variants.{Named, Unknown}
-use Rattle.cue_sheet.specs.declared.Patterns.{Patterns}
-use Rattle.cue_sheet.specs.declared.PatternFields.{PatternFields}
-use Rattle.cue_sheet.specs.declared.PatternFields.the-variants as PatternFields
-use Rattle.cue_sheet.specs.declared.CueFields.{CueFields}
-use Rattle.cue_sheet.specs.declared.Fields.{Fields}
-use Rattle.cue_sheet.specs.declared.Fields.the-variants.{Read, Malformed}
+use Rattle.cue_sheet.specs.declared.line.Cue.{Cue}
+use Rattle.cue_sheet.specs.declared.line.Cue.the-variants.{Bass, Snare, SyntheticSnare, Hihat}
+use Rattle.cue_sheet.specs.declared.line.Line.{Line}
+use Rattle.cue_sheet.specs.declared.line.Line.the-variants as Line
+use Rattle.cue_sheet.specs.declared.line.Start.{Start}
+use Rattle.cue_sheet.specs.declared.line.Knob.{Knob}
+use Rattle.cue_sheet.specs.declared.line.Fields.{Fields}
+use Rattle.cue_sheet.specs.Answer.{number, Told, says, refused}
 
--- ---- fields
+-- ---- the fields
 
--- n fields and a line end
-unfoldable pub hasFields : ℕ → List ℕ → Bool
-hasFields n line = ended line && eqb (length (fields (body line))) n
+-- a start, and a knob, which is the bit pattern of a float: 0 where the field is malformed
+abbrev pub startOf : Number → Start
+startOf (Value n) = record { valid = true; value = n }
+startOf Invalid = record { valid = false; value = 0 }
 
--- one of the letters b, s, y and h
-unfoldable pub voiceOf : ℕ → VoiceField
-voiceOf letter =
-    cond (eqb letter (code "b")) (Named Bass)
-    (cond (eqb letter (code "s")) (Named Snare)
-    (cond (eqb letter (code "y")) (Named SyntheticSnare)
-    (cond (eqb letter (code "h")) (Named Hihat)
-    Unknown)))
+abbrev pub knobOf : Number → Knob
+knobOf (Value bits) = record { valid = true; value = ofBits binary32 bits }
+knobOf Invalid = record { valid = false; value = decimalFloat 0 0 }
 
-unfoldable pub readVoice : List ℕ → VoiceField
-readVoice [] = Unknown
-readVoice (letter ∷ []) = voiceOf letter
-readVoice (x ∷ y ∷ zs) = Unknown
+-- the one byte of a field; 0 where it has not one
+unfoldable pub letter : List ℕ → ℕ
+letter [] = 0
+letter (x ∷ []) = x
+letter (x ∷ y ∷ zs) = 0
 
--- the knobs, where each field is a pattern
-unfoldable pub patternsOf : Number → Number → Number → Number → Number → PatternFields
-patternsOf (Value accent) (Value f0) (Value a) (Value decay) (Value c) = PatternFields.Read (record { accent = accent; f0 = f0; a = a; decay = decay; c = c })
-patternsOf (Value accent) (Value f0) (Value a) (Value decay) Invalid = PatternFields.Malformed
-patternsOf (Value accent) (Value f0) (Value a) Invalid c = PatternFields.Malformed
-patternsOf (Value accent) (Value f0) Invalid decay c = PatternFields.Malformed
-patternsOf (Value accent) Invalid a decay c = PatternFields.Malformed
-patternsOf Invalid f0 a decay c = PatternFields.Malformed
+unfoldable pub isVoice : ℕ → Bool
+isVoice x = eqb x (code "b") || eqb x (code "s") || eqb x (code "y") || eqb x (code "h")
 
-unfoldable pub readPatterns : List ℕ → PatternFields
-readPatterns line = patternsOf (pattern (field 2 line)) (pattern (field 3 line)) (pattern (field 4 line)) (pattern (field 5 line)) (pattern (field 6 line))
-
--- all seven, where each is well formed
-unfoldable pub fieldsOf : Number → VoiceField → PatternFields → Fields
-fieldsOf (Value start) (Named voice) (PatternFields.Read patterns) = Read (record { start = start; voice = voice; patterns = patterns })
-fieldsOf (Value start) (Named voice) PatternFields.Malformed = Malformed
-fieldsOf (Value start) Unknown patterns = Malformed
-fieldsOf Invalid voice patterns = Malformed
-
--- a start has one to five digits
+-- seven fields and a line end; a start has one to five digits
 unfoldable pub readFields : List ℕ → Fields
 readFields line =
-    cond (hasFields 7 line)
-    (fieldsOf (decimal 99999 (field 0 (body line))) (readVoice (field 1 (body line))) (readPatterns (body line)))
-    Malformed
+    let b = body line in
+    record {
+      whole = ended line && hasFields 7 b;
+      start = startOf (decimal 99999 (field 0 b));
+      voice = letter (field 1 b);
+      accent = knobOf (pattern (field 2 b));
+      f0 = knobOf (pattern (field 3 b));
+      a = knobOf (pattern (field 4 b));
+      decay = knobOf (pattern (field 5 b));
+      c = knobOf (pattern (field 6 b));
+    }
 
--- ---- the cue, whose knobs stand in the order of the fields: a is the tone, or the fm_amount of y, and c what the voice has last
-
-abbrev pub float : ℕ → Float
-float bits = ofBits binary32 bits
-
-unfoldable pub cueOf : Voice → Patterns → Cue
-cueOf Bass k = Cue.Bass (float (k .accent)) (float (k .f0)) (float (k .a)) (float (k .decay)) (float (k .c))
-cueOf Snare k = Cue.Snare (float (k .accent)) (float (k .f0)) (float (k .a)) (float (k .decay)) (float (k .c))
-cueOf SyntheticSnare k = Cue.SyntheticSnare (float (k .accent)) (float (k .f0)) (float (k .a)) (float (k .decay)) (float (k .c))
-cueOf Hihat k = Cue.Hihat (float (k .accent)) (float (k .f0)) (float (k .a)) (float (k .decay)) (float (k .c))
+unfoldable pub wellFormed : Fields → Bool
+wellFormed f =
+    f .whole && (f .start .valid && (isVoice (f .voice)
+    && (f .accent .valid && (f .f0 .valid && (f .a .valid && (f .decay .valid && f .c .valid))))))
 
 -- ---- the questions, each with its number, in their order; 0 where all are passed
 
 -- the decay of a bass goes up to 2.0, that of any other voice up to 1.0
-unfoldable pub isDecay : Voice → Float → Bool
-isDecay Bass decay = isBassDecay decay
-isDecay Snare decay = isUnit decay
-isDecay SyntheticSnare decay = isUnit decay
-isDecay Hihat decay = isUnit decay
+unfoldable pub askDecay : ℕ → Float → ℕ → ℕ
+askDecay voice decay next = cond (eqb voice (code "b")) (ask (isBassDecay decay) 5 next) (ask (isUnit decay) 5 next)
 
-unfoldable pub knobsRefusal : Voice → Patterns → ℕ
-knobsRefusal voice k =
-    ask (isFrequency (float (k .f0))) 3
-    (ask (isUnit (float (k .accent))) 4
-    (ask (isUnit (float (k .a))) 5
-    (ask (isDecay voice (float (k .decay))) 5
-    (ask (isUnit (float (k .c))) 5
+unfoldable pub knobsRefusal : Fields → ℕ
+knobsRefusal f =
+    ask (isFrequency (f .f0 .value)) 3
+    (ask (isUnit (f .accent .value)) 4
+    (ask (isUnit (f .a .value)) 5
+    (askDecay (f .voice) (f .decay .value)
+    (ask (isUnit (f .c .value)) 5
     0))))
 
--- the start is below the sheet's length, and not below the least start: 0 for the first cue, and one above the start before for the others
-unfoldable pub fieldsRefusal : ℕ → ℕ → CueFields → ℕ
-fieldsRefusal length leastStart f = ask (ltb (f .start) length) 9 (ask (leb leastStart (f .start)) 9 (knobsRefusal (f .voice) (f .patterns)))
+-- fewer than 64 cues so far; the start below the sheet's length and not below the least one: 0 at first, and then one above the start before
+unfoldable pub cueRefusal : ℕ → ℕ → ℕ → Fields → ℕ
+cueRefusal length cues leastStart f =
+    ask (ltb cues 64) 10
+    (ask (wellFormed f) 8
+    (ask (ltb (f .start .value) length) 9
+    (ask (leb leastStart (f .start .value)) 9
+    (knobsRefusal f))))
 
--- ---- what a line says: a cue with its start, or the number of the first question that it does not pass
-pub data LineAnswer : Type 0 where
-  strike : ℕ → Cue → LineAnswer
-  refused : ℕ → LineAnswer
+-- ---- the cue: a is the tone, or the fm_amount of y, and c what the voice has last
+unfoldable pub cueOf : Fields → Cue
+cueOf f =
+    let accent = f .accent .value in
+    let f0 = f .f0 .value in
+    let a = f .a .value in
+    let decay = f .decay .value in
+    let c = f .c .value in
+    cond (eqb (f .voice) (code "b")) (Bass accent f0 a decay c)
+    (cond (eqb (f .voice) (code "s")) (Snare accent f0 a decay c)
+    (cond (eqb (f .voice) (code "y")) (SyntheticSnare accent f0 a decay c)
+    (Hihat accent f0 a decay c)))
+
+pub record Strike : Type 0 where
+  pub start : ℕ
+  pub cue : Cue
 
 -- each case of the enum
-abbrev pub answer : Line → LineAnswer
-answer (Line.Cue start cue) = strike start cue
-answer (Line.Refused r) = refused (number r)
+abbrev pub told : Line → Told Strike
+told (Line.Cue start cue) = says (record { start = start; cue = cue })
+told (Line.Refused r) = refused (number r)
 
--- what fields say, by the number of the question that they do not pass
-abbrev pub answered : CueFields → ℕ → LineAnswer
-answered f n = unlessRefused n (strike (f .start) (cueOf (f .voice) (f .patterns))) (refused n)
-
-unfoldable pub onFields : Fields → (CueFields → LineAnswer) → LineAnswer
-onFields (Read f) answers = answers f
-onFields Malformed answers = refused 8
-
--- a line after the first, where `cues` cues are read so far
-unfoldable pub readCue : ℕ → ℕ → ℕ → List ℕ → LineAnswer
-unfolding onFields
+unfoldable pub readCue : ℕ → ℕ → ℕ → List ℕ → Told Strike
 readCue length cues leastStart line =
-    cond (ltb cues 64)
-    (onFields (readFields line) λ f. answered f (fieldsRefusal length leastStart f))
-    (refused 10)
+    let f = readFields line in
+    let n = cueRefusal length cues leastStart f in
+    unlessRefused n (says (record { start = f .start .value; cue = cueOf f })) (refused n)

@@ -1,3 +1,4 @@
 -- The definitions of `cue_sheet`.
+pub mod Answer
 pub mod CueLine
 pub mod Sheet

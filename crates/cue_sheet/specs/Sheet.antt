@@ -1,79 +1,86 @@
--- A cue sheet: the first line, the judgment of all lines, and the cues of an accepted sheet. Definitions only.
-use Prim.Native.Nat.{ℕ, _+_}
-use mathlib.Core.Bool.{cond}
+-- A cue sheet: its first line, the walk over the lines after it, the judgment, and the cues. Definitions only.
+use Prim.Native.Nat.{ℕ, _+_, _%_, _^_}
+use mathlib.Core.Bool.{cond, _&&_}
 use mathlib.Core.List.{List, [], _∷_}
 use lib.Dec.{leb}
+use lib.ListN as List
 use lib.ListN.{drop}
-use Rattle.refusal.specs.Refusal.{number}
-use Rattle.text.specs.Read.{body, field, decimal, lines}
+use Rattle.text.specs.Read.{ended, body, field, hasFields, decimal, lines, lineAt}
 use Rattle.text.specs.declared.read.Number.{Number}
-use Rattle.text.specs.declared.read.Number.the-variants.{Value}
-use Rattle.text.specs.declared.read.Number.the-variants as Number
-use Rattle.cue_sheet.specs.CueLine.{LineAnswer, strike, refused, hasFields, readFields, cueOf, readCue}
-use Rattle.cue_sheet.specs.declared.Cue.{Cue}
-use Rattle.cue_sheet.specs.declared.Fields.{Fields}
-use Rattle.cue_sheet.specs.declared.Fields.the-variants.{Read, Malformed}
+use Rattle.text.specs.declared.read.Number.the-variants.{Value, Invalid}
+use Rattle.cue_sheet.specs.Answer.{number, Told, says, refused}
+use Rattle.cue_sheet.specs.CueLine.{Strike, readCue}
+use Rattle.cue_sheet.specs.declared.Head.{Head}
 use Rattle.cue_sheet.specs.declared.FirstLine.{FirstLine}
-use Rattle.cue_sheet.specs.declared.FirstLine.the-variants.{Head, Invalid}
+use Rattle.cue_sheet.specs.declared.FirstLine.the-variants as FirstLine
+use Rattle.cue_sheet.specs.declared.Walk.{Walk}
 use Rattle.cue_sheet.specs.declared.Judgment.{Judgment}
 use Rattle.cue_sheet.specs.declared.Judgment.the-variants.{Accepted, Refused}
 
 -- ---- the first line, `rate,length`: a rate from 16000 to 96000, and a length from 0 to 16384
 
-unfoldable pub headOf : Number → Number → FirstLine
-headOf (Value rate) (Value length) = cond (leb 16000 rate) (Head rate length) Invalid
-headOf (Value rate) Number.Invalid = Invalid
-headOf Number.Invalid length = Invalid
+-- each case of the enum
+abbrev pub toldFirst : FirstLine → Told Head
+toldFirst (FirstLine.Head head) = says head
+toldFirst FirstLine.Invalid = refused 7
 
-unfoldable pub readFirstLine : List ℕ → FirstLine
-readFirstLine line = cond (hasFields 2 line) (headOf (decimal 96000 (field 0 (body line))) (decimal 16384 (field 1 (body line)))) Invalid
+unfoldable pub headOf : Number → Number → Told Head
+headOf (Value rate) (Value length) = cond (leb 16000 rate) (says (record { rate = rate; length = length })) (refused 7)
+headOf (Value rate) Invalid = refused 7
+headOf Invalid length = refused 7
 
--- ---- the judgment: the rate, the length and the number of cues, or the number of the first question that is not passed and its line, counted from 1
+unfoldable pub readFirstLine : List ℕ → Told Head
+readFirstLine line =
+    let b = body line in
+    cond (ended line && hasFields 2 b) (headOf (decimal 96000 (field 0 b)) (decimal 16384 (field 1 b))) (refused 7)
+
+-- ---- the walk over the lines after it
+
+abbrev pub begin : Head → List ℕ → Walk
+begin head first = record { head = head; place = 0 + List.length first; line = 2; cues = 0; «least_start» = 0 }
+
+abbrev pub readLine : Walk → List ℕ → Told Strike
+readLine w line = readCue (w .head .length) (w .cues) (w .«least_start») line
+
+-- after a line of n bytes; what is no cue changes neither the count nor the least start
+abbrev pub after : Walk → ℕ → Told Strike → Walk
+after w n (says s) = record { head = w .head; place = w .place + n; line = (w .line + 1) % 2 ^ 32; cues = w .cues + 1; «least_start» = s .start + 1 }
+after w n (refused m) = record { head = w .head; place = w .place + n; line = (w .line + 1) % 2 ^ 32; cues = w .cues; «least_start» = w .«least_start» }
+
+unfoldable pub next : Walk → List ℕ → Walk
+next w line = after w (List.length line) (readLine w line)
+
+-- ---- the judgment: what the first line says and the number of cues, or the number of the first question that is not passed and its line, counted from 1
 pub data SheetAnswer : Type 0 where
-  accepted : ℕ → ℕ → ℕ → SheetAnswer
+  accepted : Head → ℕ → SheetAnswer
   refusedAt : ℕ → ℕ → SheetAnswer
 
 -- each case of the enum
 abbrev pub answer : Judgment → SheetAnswer
-answer (Accepted rate length cues) = accepted rate length cues
+answer (Accepted head cues) = accepted head cues
 answer (Refused refusal line) = refusedAt (number refusal) line
 
-unfoldable pub onLine : LineAnswer → ℕ → (ℕ → SheetAnswer) → SheetAnswer
-onLine (strike start cue) line f = f start
-onLine (refused n) line f = refusedAt n line
+unfoldable pub onTold : {A : Type 0} → Told A → ℕ → (A → SheetAnswer) → SheetAnswer
+onTold (says x) line f = f x
+onTold (refused n) line f = refusedAt n line
 
--- the lines after the first line and `cues` cue lines
-unfoldable pub judgeLines : ℕ → ℕ → ℕ → ℕ → List (List ℕ) → SheetAnswer
-unfolding onLine
-judgeLines rate length cues leastStart [] = accepted rate length cues
-judgeLines rate length cues leastStart (line ∷ lines) =
-    onLine (readCue length cues leastStart line) (cues + 2) λ start. judgeLines rate length (cues + 1) (start + 1) lines
-
-unfoldable pub onFirst : FirstLine → (ℕ → ℕ → SheetAnswer) → SheetAnswer
-onFirst (Head rate length) f = f rate length
-onFirst Invalid f = refusedAt 7 1
-
-unfoldable pub judgeAll : List (List ℕ) → SheetAnswer
-unfolding onFirst
-judgeAll [] = refusedAt 7 1
-judgeAll (first ∷ lines) = onFirst (readFirstLine first) λ rate length. judgeLines rate length 0 0 lines
+unfoldable pub judgeFrom : Walk → List (List ℕ) → SheetAnswer
+unfolding onTold
+judgeFrom w [] = accepted (w .head) (w .cues)
+judgeFrom w (line ∷ lines) = onTold (readLine w line) (w .line) λ _. judgeFrom (next w line) lines
 
 unfoldable pub judge : List ℕ → SheetAnswer
-judge sheet = judgeAll (lines sheet)
+judge sheet = onTold (readFirstLine (lineAt 0 sheet)) 1 λ head. judgeFrom (begin head (lineAt 0 sheet)) (drop 1 (lines sheet))
 
--- ---- the cues of an accepted sheet, in their order
+-- ---- the cues, in their order: of a refused sheet, those of the lines that pass
 
-pub record Strike : Type 0 where
-  pub start : ℕ
-  pub cue : Cue
+unfoldable pub struck : Told Strike → List Strike → List Strike
+struck (says s) strikes = s ∷ strikes
+struck (refused n) strikes = strikes
 
-unfoldable pub onCue : Fields → List Strike → List Strike
-onCue (Read f) strikes = record { start = f .start; cue = cueOf (f .voice) (f .patterns) } ∷ strikes
-onCue Malformed strikes = strikes
+unfoldable pub strikesFrom : Walk → List (List ℕ) → List Strike
+strikesFrom w [] = []
+strikesFrom w (line ∷ lines) = struck (readLine w line) (strikesFrom (next w line) lines)
 
-unfoldable pub strikesOf : List (List ℕ) → List Strike
-strikesOf [] = []
-strikesOf (line ∷ lines) = onCue (readFields line) (strikesOf lines)
-
-unfoldable pub strikes : List ℕ → List Strike
-strikes sheet = strikesOf (drop 1 (lines sheet))
+unfoldable pub strikes : Head → List ℕ → List Strike
+strikes head sheet = strikesFrom (begin head (lineAt 0 sheet)) (drop 1 (lines sheet))

@@ -1,0 +1,13 @@
+-- Each arm is one of the definition's.
+use borrow.Author.Tests.{ne-eqb}
+use Rattle.cue_sheet.specs.CueLine.{cueOf}
+use Rattle.cue_sheet.proofs.line.Fields.cue.Statement.{statement}
+use Rattle.cue_sheet.proofs.line.Fields.cue.Tie as tie
+
+returns-4 : tie.Need-returns-4
+unfolding cueOf
+returns-4 c = let r = c .match .rest in rw (ne-eqb _ _ (r .0 .0 .1), ne-eqb _ _ (r .0 .1), ne-eqb _ _ (r .1))
+
+pub cue-spec : {M : Type 1} → statement M
+unfolding cueOf
+cue-spec = tie.close (tie.spec (λ c. rw (c .match .keys1)) (λ c. rw (c .match .keys2)) (λ c. rw (c .match .keys3)) returns-4)

@@ -2,3 +2,4 @@
 mod Letter
 mod Cursor
 pub mod Questions
+pub mod Walks

@@ -98,23 +98,13 @@ impl Walk {
     }
 }
 
-// `rate,length` and a line end.
-pub fn read_first_line(line: &[u8]) -> FirstLine
-    ensures { λ r. ⌜ spec.toldFirst r ≡ spec.readFirstLine (now (line .entry)) ⌝ }
+fn head_of(rate: Number, length: Number) -> FirstLine
+    ensures { λ r. ⌜ spec.toldFirst r ≡ spec.headOf rate length ⌝ }
 {
-    if !text::read::ended(line) {
-        return FirstLine::Invalid;
-    }
-    let body = text::read::body(line);
-    let comma = text::read::field_end(body, 0);
-    let end = text::read::field_end(body, comma + 1);
-    if end != body.len() {
-        return FirstLine::Invalid;
-    }
-    let Number::Value(rate) = text::read::decimal(&body[..comma], 96000) else {
+    let Number::Value(rate) = rate else {
         return FirstLine::Invalid;
     };
-    let Number::Value(length) = text::read::decimal(&body[comma + 1..end], 16384) else {
+    let Number::Value(length) = length else {
         return FirstLine::Invalid;
     };
     if rate < 16000 {
@@ -123,11 +113,26 @@ pub fn read_first_line(line: &[u8]) -> FirstLine
     FirstLine::Head(Head { rate, length })
 }
 
+// `rate,length` and a line end.
+pub fn read_first_line(line: &[u8]) -> FirstLine
+    ensures { λ r. ⌜ spec.toldFirst r ≡ spec.readFirstLine (now (line .entry)) ⌝ }
+{
+    let body = text::read::body(line);
+    let comma = text::read::field_end(body, 0);
+    let end = text::read::field_end(body, comma + 1);
+    let rate = text::read::decimal(line::part(body, 0, comma), 96000);
+    let length = text::read::decimal(line::part(body, comma + 1, end), 16384);
+    if line::both(text::read::ended(line), end == body.len()) {
+        return head_of(rate, length);
+    }
+    FirstLine::Invalid
+}
+
 pub fn judge(sheet: &[u8]) -> Judgment
     ensures { λ r. ⌜ spec.answer r ≡ spec.judge (now (sheet .entry)) ⌝ }
 {
     let first = text::read::line_end(sheet, 0);
-    let FirstLine::Head(head) = read_first_line(&sheet[..first]) else {
+    let FirstLine::Head(head) = read_first_line(line::part(sheet, 0, first)) else {
         return Judgment::Refused {
             refusal: SheetRefusal::FirstLine,
             line: 1,

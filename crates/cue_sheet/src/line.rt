@@ -89,7 +89,7 @@ pub(crate) fn part(s: &[u8], from: usize, to: usize) -> &[u8]
     &s[..0]
 }
 
-fn both(a: bool, b: bool) -> bool
+pub(crate) fn both(a: bool, b: bool) -> bool
     ensures { λ r. ⌜ r ≡ (a && b) ⌝ }
 {
     if a { b } else { false }

@@ -2,6 +2,5 @@
 mod Fill
 mod Segment
 mod Walk
-mod AcceptedSheet
 mod SheetIntoBuffer
 mod NeverRefused

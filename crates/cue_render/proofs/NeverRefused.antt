@@ -1,5 +1,5 @@
 -- No call of a voice is refused while an accepted sheet is rendered.
-use Prim.Native.Nat.{ℕ, zero, suc, _-_, _^_, _≤_}
+use Prim.Native.Nat.{ℕ, zero, suc, _-_, _^_, _≤_, _<_}
 use native.Mathlib.Omega.{arith}
 use mathlib.Core.Path.{_≡_, refl, sym, ap, _∙_}
 use mathlib.Core.Bool.{Bool, true, false, cond, true≢false}
@@ -23,32 +23,37 @@ use Rattle.synthetic_snare_drum.specs.declared.Knobs.{Knobs as SyntheticSnareKn
 use Rattle.hihat.specs.Hihat as hihat
 use Rattle.hihat.proofs.Rate.{rate-kept}
 use Rattle.hihat.specs.declared.VcaType.the-variants.{Swing}
-use Rattle.cue_sheet.specs.Sheet.{accepted, Strike, judge, strikes}
-use Rattle.cue_sheet.specs.declared.Cue.{Cue}
-use Rattle.cue_sheet.specs.declared.Cue.the-variants.{Bass, Snare, SyntheticSnare as Synthetic, Hihat}
-use Rattle.cue_sheet.proofs.Questions.{KnobsIn, KnobsOf}
+use Rattle.cue_sheet.specs.Answer.{Told, says, refused}
+use Rattle.cue_sheet.specs.CueLine.{Strike}
+use Rattle.cue_sheet.specs.Sheet.{readLine, next, strikesFrom, strikes}
+use Rattle.cue_sheet.specs.Sheet as Sheet
+use Rattle.cue_sheet.specs.declared.Walk.{Walk}
+use Rattle.cue_sheet.specs.declared.line.Cue.{Cue}
+use Rattle.cue_sheet.specs.declared.line.Cue.the-variants.{Bass, Snare, SyntheticSnare as Synthetic, Hihat}
+use Rattle.cue_sheet.proofs.Questions.{KnobsIn, KnobsOf, cue-passed}
 use Rattle.cue_render.specs.Part.{knobsOf, ofBass, bassCall, bassAfter, snareCall, snareAfter, syntheticSnareCall, syntheticSnareAfter, hihatCall, hihatAfter}
 use Rattle.cue_render.specs.Kit.{unstruck, start, afterSegment, strike, struck}
-use Rattle.cue_render.specs.Calls.{StartAccepted, SegmentAccepted, SegmentsAccepted}
+use Rattle.cue_render.specs.Calls.{SegmentAccepted, SegmentsAccepted, NoneRefused}
 use Rattle.cue_render.specs.declared.part.Playing.{Playing}
 use Rattle.cue_render.specs.declared.part.BassPart.{BassPart}
 use Rattle.cue_render.specs.declared.part.SnarePlayed.{SnarePlayed}
 use Rattle.cue_render.specs.declared.part.SyntheticSnarePlayed.{SyntheticSnarePlayed}
 use Rattle.cue_render.specs.declared.part.HihatPlayed.{HihatPlayed}
 use Rattle.cue_render.specs.declared.kit.Kit.{Kit}
-use Rattle.cue_sheet.proofs.FirstLines.{HeadIn}
+use Rattle.cue_sheet.specs.declared.Head.{Head}
+use Rattle.cue_sheet.proofs.FirstLines.{HeadIn, accepted-head}
+use Rattle.cue_sheet.proofs.Walks.{next-head}
 use Rattle.cue_render.specs.Mix.{silence}
 use Rattle.cue_render.proofs.Fill.{silence-length}
-use Rattle.cue_render.proofs.AcceptedSheet.{CuesIn, sheet-accepted}
 
 -- ---- a sheet's rate is a sample rate
 whole-le : (m n : ℕ) → m ≤ n → n ≤ 2 ^ 24 → le (round binary32 false m 1) (round binary32 false n 1) ≡ true
 whole-le m n h small =
     is-true _ (le-of-values _ _ m 1 n 1 (omega arith) (omega arith) (round-whole binary32 false m (omega arith)) (round-whole binary32 false n small) (omega arith))
 
-sheet-rate : (rate length : ℕ) → HeadIn rate length → isSampleRate (ofInt binary32 (pos rate)) ≡ true
+sheet-rate : (head : Head) → HeadIn head → isSampleRate (ofInt binary32 (pos (head .rate))) ≡ true
 unfolding isSampleRate within ofInt
-sheet-rate rate length h = rw (whole-le 16000 rate (h .lowest) (omega (arith, h .highest)), whole-le rate 96000 (h .highest) (omega arith))
+sheet-rate head h = rw (whole-le 16000 (head .rate) (h .lowest) (omega (arith, h .highest)), whole-le (head .rate) 96000 (h .highest) (omega arith))
 
 -- ---- the knobs of what is struck have passed their questions
 abbrev Passed : (Float → Bool) → Playing → Type 0
@@ -151,6 +156,20 @@ segment-ready k n r =
           (ap isSampleRate (rate-kept _ (h .trigger) Swing _ (silence n)) ∙ r .hihat-rate) (r .hihat-rate);
     }
 
+-- ---- the cues of a sheet start below its length, and their knobs have passed their questions
+CuesIn : ℕ → List Strike → Type 0
+CuesIn length [] = Unit {0}
+CuesIn length (s ∷ ss) = (s .start < length) × KnobsOf (s .cue) × CuesIn length ss
+
+cues-in : (length : ℕ) (w : Walk) (ls : List (List ℕ)) → w .head .length ≡ length → CuesIn length (strikesFrom w ls)
+unfolding strikesFrom Sheet.struck CuesIn
+cues-in length w [] h = tt
+cues-in length w (line ∷ ls) h = go (readLine w line) refl (cues-in length (next w line) ls (ap (λ (k : Head). k .length) (next-head w line) ∙ h))
+  where
+    go : (x : Told Strike) → readLine w line ≡ x → CuesIn length (strikesFrom (next w line) ls) → CuesIn length (Sheet.struck x (strikesFrom (next w line) ls))
+    go (says s) e ih = let p = cue-passed _ _ _ _ e in (rw h at (p .inside), p .knobs, ih)
+    go (refused n) e ih = ih
+
 -- ---- the sheet
 segments-ready : (length : ℕ) → length ≤ 16384 → (k : Kit) (from : ℕ) (ss : List Strike) → Ready k → CuesIn length ss → SegmentsAccepted length k from ss
 unfolding SegmentsAccepted CuesIn
@@ -162,11 +181,12 @@ segments-ready length short k from (s ∷ ss) r cues =
       segments-ready length short (strike played (s .cue)) (s .start) ss next (cues .2),
     )
 
-pub never-refused : (sheet : List ℕ) (rate length cues : ℕ) → judge sheet ≡ accepted rate length cues
-    → StartAccepted rate × SegmentsAccepted length (start rate) 0 (strikes sheet)
-never-refused sheet rate length cues h =
-    let known = sheet-accepted rate length cues sheet h in
-    let in-range = sheet-rate rate length (known .0) in (
+pub never-refused : (sheet : List ℕ) → NoneRefused sheet
+unfolding strikes NoneRefused
+never-refused sheet head cues h =
+    let known = accepted-head sheet h in
+    let in-range = sheet-rate head known in (
       record { bass = rw in-range; snare = rw in-range; synthetic-snare = rw in-range; hihat = rw in-range },
-      segments-ready length (known .0 .longest) (start rate) 0 (strikes sheet) (start-ready rate in-range) (known .1),
+      segments-ready (head .length) (known .longest) (start (head .rate)) 0 (strikes head sheet) (start-ready (head .rate) in-range)
+          (cues-in (head .length) _ _ refl),
     )

@@ -1,4 +1,4 @@
--- The walk over an accepted sheet, which fills the buffer segment by segment.
+-- The walk over a sheet, which fills the buffer segment by segment.
 use Prim.Native.Nat.{ℕ, _+_, _-_, _≤_, _<_}
 use native.Mathlib.Omega.{arith}
 use mathlib.Core.Path.{_≡_, refl, sym, ap, _∙_}
@@ -8,12 +8,13 @@ use lib.ListN.{take, drop, length-append, length-drop}
 use lib.Seq.{length-take-le, take-at, drop-at, drop-drop}
 use lib.Ieee.{Float}
 use Rattle.text.specs.Read.{lines, lineAt}
-use Rattle.cue_sheet.specs.CueLine.{answer, readCue}
-use Rattle.cue_sheet.specs.Sheet.{accepted, judge, strikes, strikesOf}
-use Rattle.cue_sheet.specs.declared.Cue.{Cue}
-use Rattle.cue_sheet.specs.declared.Line.{Line}
-use Rattle.cue_sheet.specs.declared.Line.the-variants as Line
-use Rattle.cue_sheet.proofs.Judging.{Judging, first-accepted, first-listed, between, line-passed, line-goes-on, line-listed, none-listed}
+use Rattle.cue_sheet.specs.Answer.{says, refused}
+use Rattle.cue_sheet.specs.CueLine.{Strike}
+use Rattle.cue_sheet.specs.Sheet.{begin, readLine, next, struck, strikesFrom, strikes}
+use Rattle.cue_sheet.specs.declared.Head.{Head}
+use Rattle.cue_sheet.specs.declared.Walk.{Walk}
+use Rattle.cue_sheet.proofs.Questions.{cue-passed}
+use Rattle.cue_sheet.proofs.Walks.{rest, next-head, least-kept, least-raised, line-struck, none-struck}
 use Rattle.cue_render.specs.Kit.{start, segment, afterSegment}
 use Rattle.cue_render.specs.Kit as Kit
 use Rattle.cue_render.specs.Render.{samplesFrom, samples}
@@ -48,72 +49,84 @@ module _ (out seg out′ : List Float) (from to : ℕ) (h : from ≤ to) (within
       let behind : drop to out′ ≡ drop to out = rw cut (drop-at (take from out ++ seg) (drop to out) to front-length) in
       rw (← n-is) (sym (drop-drop (n - to) to out′) ∙ ap (drop (n - to)) behind ∙ drop-drop (n - to) to out)
 
--- ---- the walk: the cues up to place `at` of the sheet are struck, and the samples up to place `from` of the buffer are written
-pub record Walking (sheet : List ℕ) (rate length : ℕ) (out₀ : List Float) (kit : KitT) (from at cues leastStart : ℕ) (out : List Float) : Type 0 where
-  pub judging : Judging sheet rate length at cues leastStart
-  pub inside : from ≤ length
-  pub behind : from ≤ leastStart
-  pub room : length ≤ List.length out
+-- ---- the walk w stands at its place of the sheet: the cues before are struck, and the samples up to place `from` of the buffer are written
+pub record Walking (sheet : List ℕ) (head : Head) (out₀ : List Float) (kit : KitT) (from : ℕ) (w : Walk) (out : List Float) : Type 0 where
+  pub same : w .head ≡ head
+  pub inside : from ≤ head .length
+  pub behind : from ≤ w .«least_start»
+  pub room : head .length ≤ List.length out
   pub long : List.length out ≡ List.length out₀
-  pub left : take from out ++ (samplesFrom length kit from (strikesOf (lines (drop at sheet))) ++ drop length out) ≡ samples rate length (strikes sheet) ++ drop length out₀
+  pub left : take from out ++ (samplesFrom (head .length) kit from (strikesFrom w (lines (drop (w .place) sheet))) ++ drop (head .length) out)
+      ≡ samples head (strikes head sheet) ++ drop (head .length) out₀
 
-pub begin : (sheet : List ℕ) (rate length cues : ℕ) (out : List Float) (first : ℕ) → first ≡ 0 + List.length (lineAt 0 sheet)
-    → judge sheet ≡ accepted rate length cues → length ≤ List.length out → (k : KitT) → k ≡ start rate → Walking sheet rate length out k 0 first 0 0 out
-unfolding samples
-begin sheet rate length cues out first ends h room k started = record {
-  judging = first-accepted sheet first ends rate length cues h;
-  inside = omega arith;
-  behind = omega arith;
-  room = room;
-  long = refl;
-  left = rw (started, first-listed sheet first ends);
-}
+pub begins : (sheet : List ℕ) (head : Head) (out : List Float) → head .length ≤ List.length out
+    → Walking sheet head out (start (head .rate)) 0 (begin head (lineAt 0 sheet)) out
+unfolding samples strikes
+begins sheet head out room =
+    record { same = refl; inside = omega arith; behind = omega arith; room = room; long = refl; left = rw (rest sheet) }
 
-module _ {sheet : List ℕ} {rate length : ℕ} {out₀ : List Float} {kit : KitT} {from at cues leastStart : ℕ} {out : List Float}
-    (w : Walking sheet rate length out₀ kit from at cues leastStart out) where
-  -- the line at `at`, which ends at `next`, is a cue
-  module _ {next : ℕ} (ends : next ≡ at + List.length (lineAt at sheet)) (more : at < List.length sheet)
-      {r : Line} (read : answer r ≡ readCue length cues leastStart (between at next sheet)) {to : ℕ} {cue : Cue} (e : r ≡ Line.Cue to cue) where
-    pub cue-after : from ≤ to
-    cue-after = omega (arith, w .behind, line-passed (w .judging) ends more read e .least)
+module _ {sheet : List ℕ} {head : Head} {out₀ : List Float} {kit : KitT} {from : ℕ} {w : Walk} {out : List Float}
+    (g : Walking sheet head out₀ kit from w out) where
+  abbrev here : List ℕ
+  here = lineAt (w .place) sheet
 
-    below : to < length
-    below = line-passed (w .judging) ends more read e .inside
+  module _ (more : w .place < List.length sheet) where
+    -- a line that is no cue
+    pub passes : {n : ℕ} → readLine w here ≡ refused n → Walking sheet head out₀ kit from (next w here) out
+    unfolding struck
+    passes e = record {
+      same = next-head w here ∙ g .same;
+      inside = g .inside;
+      behind = rw (least-kept w here e) (g .behind);
+      room = g .room;
+      long = g .long;
+      left = rw (line-struck sheet w more, e) at (g .left);
+    }
 
-    pub cue-within : to ≤ List.length out
-    cue-within = omega (arith, below, w .room)
+    -- a cue
+    module _ {s : Strike} (e : readLine w here ≡ says s) where
+      pub cue-after : from ≤ s .start
+      cue-after = omega (arith, g .behind, cue-passed _ _ _ _ e .least)
 
-    pub cue-room : (scratch : List Float) → length ≤ List.length scratch → to - from ≤ List.length scratch
-    cue-room scratch enough = omega (arith, below, enough)
+      below : s .start < head .length
+      below = rw (g .same) at (cue-passed _ _ _ _ e .inside)
 
-    pub turn : {out′ : List Float} {kit₁ kit₂ : KitT} → kit₁ ≡ afterSegment kit (to - from) → out′ ≡ take from out ++ (segment kit (to - from) ++ drop to out)
-        → List.length out′ ≡ List.length out → kit₂ ≡ Kit.strike kit₁ cue → Walking sheet rate length out₀ kit₂ to next (cues + 1) (to + 1) out′
-    unfolding samplesFrom
-    turn {out′ = out′} after written long struck =
-        let seg = segment kit (to - from) in
-        record {
-          judging = line-goes-on (w .judging) ends more read e;
-          inside = omega (arith, below);
-          behind = omega arith;
-          room = omega (arith, w .room, long);
-          long = long ∙ w .long;
-          left =
-              rw (
-                front out seg out′ from to cue-after cue-within written long,
-                back out seg out′ from to cue-after cue-within written long length (omega (arith, below)),
-                append-assoc,
-                ← append-assoc seg,
-                struck,
-                after,
-              )
-              (rw (line-listed (w .judging) ends more read e) at (w .left));
-        }
+      pub cue-within : s .start ≤ List.length out
+      cue-within = omega (arith, below, g .room)
+
+      pub cue-room : (scratch : List Float) → head .length ≤ List.length scratch → s .start - from ≤ List.length scratch
+      cue-room scratch enough = omega (arith, below, enough)
+
+      pub turn : {out′ : List Float} {kit₁ kit₂ : KitT} → kit₁ ≡ afterSegment kit (s .start - from)
+          → out′ ≡ take from out ++ (segment kit (s .start - from) ++ drop (s .start) out)
+          → List.length out′ ≡ List.length out → kit₂ ≡ Kit.strike kit₁ (s .cue) → Walking sheet head out₀ kit₂ (s .start) (next w here) out′
+      unfolding samplesFrom struck
+      turn {out′ = out′} after written long struck-is =
+          let to = s .start in
+          let seg = segment kit (to - from) in
+          record {
+            same = next-head w here ∙ g .same;
+            inside = omega (arith, below);
+            behind = rw (least-raised w here e) (omega arith);
+            room = omega (arith, g .room, long);
+            long = long ∙ g .long;
+            left =
+                rw (
+                  front out seg out′ from to cue-after cue-within written long,
+                  back out seg out′ from to cue-after cue-within written long (head .length) (omega (arith, below)),
+                  append-assoc,
+                  ← append-assoc seg,
+                  struck-is,
+                  after,
+                )
+                (rw (line-struck sheet w more, e) at (g .left));
+          }
 
   -- the last segment goes up to the sheet's end
-  pub last-room : (scratch : List Float) → length ≤ List.length scratch → length - from ≤ List.length scratch
+  pub last-room : (scratch : List Float) → head .length ≤ List.length scratch → head .length - from ≤ List.length scratch
   last-room scratch enough = omega (arith, enough)
 
-  pub end : List.length sheet ≤ at → {out′ : List Float} → out′ ≡ take from out ++ (segment kit (length - from) ++ drop length out)
-      → out′ ≡ samples rate length (strikes sheet) ++ drop length out₀
+  pub end : List.length sheet ≤ w .place → {out′ : List Float} → out′ ≡ take from out ++ (segment kit (head .length - from) ++ drop (head .length) out)
+      → out′ ≡ samples head (strikes head sheet) ++ drop (head .length) out₀
   unfolding samplesFrom
-  end over written = written ∙ (rw (none-listed (w .judging) over) at (w .left))
+  end over written = written ∙ (rw (none-struck sheet w over) at (g .left))

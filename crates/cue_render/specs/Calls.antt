@@ -9,9 +9,11 @@ use Rattle.analog_bass_drum.specs.AnalogBassDrum as AnalogBassDrum
 use Rattle.analog_snare_drum.specs.AnalogSnareDrum as AnalogSnareDrum
 use Rattle.synthetic_snare_drum.specs.SyntheticSnareDrum as SyntheticSnareDrum
 use Rattle.hihat.specs.Hihat as Hihat
-use Rattle.cue_sheet.specs.Sheet.{Strike}
+use Rattle.cue_sheet.specs.CueLine.{Strike}
+use Rattle.cue_sheet.specs.Sheet.{accepted, judge, strikes}
+use Rattle.cue_sheet.specs.declared.Head.{Head}
 use Rattle.cue_render.specs.Part.{bassCall, snareCall, syntheticSnareCall, hihatCall}
-use Rattle.cue_render.specs.Kit.{afterSegment, strike}
+use Rattle.cue_render.specs.Kit.{start, afterSegment, strike}
 use Rattle.cue_render.specs.declared.kit.Kit.{Kit}
 
 -- ---- no call is refused: only the voices that are struck are called
@@ -28,8 +30,13 @@ pub record SegmentAccepted (k : Kit) (n : ℕ) : Type 0 where
   pub synthetic-snare : k .«synthetic_snare» .playing .struck ≡ true → (noise : ℕ) → syntheticSnareCall (k .«synthetic_snare») noise n .number ≡ 0
   pub hihat : k .hihat .playing .struck ≡ true → (noise : ℕ) → hihatCall (k .hihat) noise n .number ≡ 0
 
--- in each of the segments that `samplesFrom` goes through
+-- in each of the segments
 unfoldable pub SegmentsAccepted : ℕ → Kit → ℕ → List Strike → Type 0
 SegmentsAccepted length k from [] = SegmentAccepted k (length - from)
 SegmentsAccepted length k from (s ∷ ss) =
     SegmentAccepted k (s .start - from) × SegmentsAccepted length (strike (afterSegment k (s .start - from)) (s .cue)) (s .start) ss
+
+unfoldable pub NoneRefused : List ℕ → Type 0
+NoneRefused sheet =
+    (head : Head) (cues : ℕ) → judge sheet ≡ accepted head cues
+    → StartAccepted (head .rate) × SegmentsAccepted (head .length) (start (head .rate)) 0 (strikes head sheet)

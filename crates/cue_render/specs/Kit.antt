@@ -10,8 +10,8 @@ use Rattle.analog_snare_drum.specs.AnalogSnareDrum as AnalogSnareDrum
 use Rattle.synthetic_snare_drum.specs.SyntheticSnareDrum as SyntheticSnareDrum
 use Rattle.hihat.specs.Hihat as hihat
 use Rattle.cue_render.specs.Mix.{silence}
-use Rattle.cue_sheet.specs.declared.Cue.{Cue}
-use Rattle.cue_sheet.specs.declared.Cue.the-variants.{Bass, Snare, SyntheticSnare, Hihat}
+use Rattle.cue_sheet.specs.declared.line.Cue.{Cue}
+use Rattle.cue_sheet.specs.declared.line.Cue.the-variants.{Bass, Snare, SyntheticSnare, Hihat}
 use Rattle.cue_render.specs.Part as Part
 use Rattle.cue_render.specs.Part.{knobsOf, into, bassCall, bassAfter, snareCall, snareAfter, syntheticSnareCall, syntheticSnareAfter, hihatCall, hihatAfter}
 use Rattle.cue_render.specs.declared.part.Playing.{Playing}

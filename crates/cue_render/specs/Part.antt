@@ -19,8 +19,8 @@ use Rattle.hihat.specs.Hihat as hihat
 use Rattle.hihat.specs.declared.Hihat.{Hihat as HihatVoice}
 use Rattle.hihat.specs.declared.Knobs.{Knobs as HihatKnobs}
 use Rattle.hihat.specs.declared.VcaType.the-variants.{Swing}
-use Rattle.cue_sheet.specs.declared.Cue.{Cue}
-use Rattle.cue_sheet.specs.declared.Cue.the-variants.{Bass, Snare, SyntheticSnare, Hihat}
+use Rattle.cue_sheet.specs.declared.line.Cue.{Cue}
+use Rattle.cue_sheet.specs.declared.line.Cue.the-variants.{Bass, Snare, SyntheticSnare, Hihat}
 use Rattle.cue_render.specs.Mix.{silence, added}
 use Rattle.cue_render.specs.declared.part.Knobs.{Knobs}
 use Rattle.cue_render.specs.declared.part.Playing.{Playing}

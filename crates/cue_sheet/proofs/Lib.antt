@@ -3,3 +3,4 @@ mod Letter
 mod Cursor
 pub mod Questions
 pub mod Walks
+pub mod FirstLines

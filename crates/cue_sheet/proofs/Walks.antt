@@ -85,6 +85,15 @@ module _ (w : Walk) (line : List ℕ) where
       go (says s) = refl
       go (refused n) = refl
 
+  -- the least start is kept, or is one above the cue's
+  pub least-kept : {n : ℕ} → readLine w line ≡ refused n → next w line .«least_start» ≡ w .«least_start»
+  unfolding next
+  least-kept e = rw e
+
+  pub least-raised : {s : Strike} → readLine w line ≡ says s → next w line .«least_start» ≡ s .start + 1
+  unfolding next
+  least-raised e = rw e
+
 module _ (sheet : List ℕ) (w : Walk) (more : w .place < List.length sheet) where
   abbrev here : List ℕ
   here = lineAt (w .place) sheet

@@ -4,10 +4,8 @@ use Rattle.random.proofs.Product.{halves}
 use Rattle.random.proofs.wrapping_mul.Statement.{statement}
 use Rattle.random.proofs.wrapping_mul.Tie as tie
 
-returns : tie.Need-returns
-returns c = let at-start = c .before .before .before .before .before in cc (halves (at-start .args .a) (at-start .args .b))
-
 pub wrapping-mul-spec : {M : Type 1} → statement M
 wrapping-mul-spec =
     tie.close
-    (tie.spec (λ c κs. search needs) (λ c κs. search needs) (λ c κs. search needs) (λ c κs. search needs) (λ c κs. search needs) returns)
+    (tie.spec (λ c κs. search needs) (λ c κs. search needs) (λ c κs. search needs) (λ c κs. search needs) (λ c κs. search needs)
+    (λ c. let at-start = c .before .before .before .before .before in cc (halves (at-start .args .a) (at-start .args .b))))

@@ -47,15 +47,15 @@ module _ (semitones : Float) where
       let p = pitchOf semitones in
       let below = not-beyond p (h .1) in
       let at = pitch-places below in
-      let c = close-at (integral p) (step p) (at .integral-below) (at .step-below) in
+      let c = close-at (integral p) (step p) (floor256 p + 71680) (at .integral-below) (at .step-below) (omega (arith, at .floored (h .0))) in
       rw below
       record {
         R = c .R;
         whole = c .whole;
         n = floor256 p + 71680;
         n-is = exponent (floor256 p);
-        least = rw (at .floored (h .0)) at (c .least);
-        most = rw (at .floored (h .0)) at (c .most);
+        least = c .least;
+        most = c .most;
       }
 
   -- ---- both clauses, of the definition's ratio and so of the code's two answers

@@ -3,7 +3,7 @@ use borrow.Author.Tests.{le-ltb}
 use mathlib.Core.Path.{_≡_, refl, sym, ap, _∙_}
 use mathlib.Core.Bool.{true, false, true≢false}
 use Prim.Native.Nat.{ℕ, _+_, _-_, _*_, _^_, _≤_, _<_}
-use native.Mathlib.Nat.{lt-of-lt-of-le, mul-comm, mul-assoc, mul-left-comm, mul-mul-mul-comm, mul-sub, mul-pos, mul-le-mul-right}
+use native.Mathlib.Nat.{lt-of-lt-of-le, mul-comm, mul-assoc, mul-left-comm, mul-right-comm, mul-mul-mul-comm, mul-sub, mul-pos, mul-le-mul-right, eq-of-mul-eq-mul-right}
 use native.Mathlib.Omega.{arith}
 use lib.IntN.{ℤ, pos}
 use lib.Pow.{pow-add, pow-mono, shl-lt}
@@ -14,6 +14,15 @@ use lib.Ieee.Scale.{round-same}
 use Rattle.ieee754.specs.Operations.{isSignMinus}
 use Rattle.ieee754.proofs.Signs.{round-sign}
 use Rattle.ieee754.specs.Single.{decimal}
+
+-- ---- a / c that is b / d
+pub revalued : (x : Float) (a c b d : ℕ) → 0 < c → a * d ≡ b * c → HasValue x false a c → HasValue x false b d
+revalued nan a c b d C e v = v
+revalued (inf s) a c b d C e v = v
+revalued (fin s m k) a c b d C e v = (
+  v .0,
+  eq-of-mul-eq-mul-right c C _ _ (mul-right-comm (m * up k) d c ∙ rw (v .1, mul-right-comm a (down k) d, e) (mul-right-comm b c (down k))),
+)
 
 -- ---- m * 2 ^ e - i, for a whole i that is no larger
 sum-is : (f : Format) (a b c : ℕ) → b ≤ a → sum f false a true b c ≡ round f false (a - b) c

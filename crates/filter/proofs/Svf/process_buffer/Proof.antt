@@ -14,27 +14,11 @@ Inv-loop in- out₀ mode n filter₀ i₀ out filter i = Filtering mode filter�
 abbrev μ-loop : tie.MeasureT-loop
 μ-loop in- out₀ mode n filter₀ i₀ out filter i = n - i
 
-loop-holds : tie.Need-loop-holds Inv-loop μ-loop
-loop-holds c = begin-filtering _ _ _ _
-
-loop-again : tie.Need-loop-again Inv-loop μ-loop
-loop-again c =
-    let at-loop = c .before .before .before .before in
-    let a = at-loop .before .before .before .before .args in
-    let h : at-loop .loop .i < min (length (now (a .in-))) (length (now (a .out))) = omega arith in
-    rw (c .before .process .ensures) (turn-filtering _ _ _ _ _ _ _ (at-loop .loop .inv) h)
-
-same-length : tie.Need-same-length Inv-loop μ-loop
-same-length c = c .before .loop .inv .long
-
-returns : tie.Need-returns Inv-loop μ-loop
-returns c =
-    let a = c .before .before .before .before .before .args in
-    let h : min (length (now (a .in-))) (length (now (a .out))) ≤ c .before .loop .i = omega arith in
-    end-filtering _ _ _ _ _ _ _ (c .before .loop .inv) h
-
 pub process-buffer-spec : {M : Type 1} → statement M
 process-buffer-spec =
     tie.close
-    (tie.spec Inv-loop μ-loop (λ c κs. search needs) loop-holds (λ c. search needs) (λ c. search needs) (λ c κs. search needs) (λ c. search needs)
-    (λ c. search needs) (λ c. search needs) (λ c. search needs) loop-again same-length returns)
+    (tie.spec Inv-loop μ-loop (λ c κs. search needs) (λ c. begin-filtering _ _ _ _) (λ c. search needs) (λ c. search needs) (λ c κs. search needs)
+    (λ c. search needs) (λ c. search needs) (λ c. search needs) (λ c. search needs)
+    (λ c. let at-loop = c .before .before .before .before in
+    rw (c .before .process .ensures) (turn-filtering _ _ _ _ _ _ _ (at-loop .loop .inv) (omega arith)))
+    (λ c. c .before .loop .inv .long) (λ c. end-filtering _ _ _ _ _ _ _ (c .before .loop .inv) (omega arith)))

@@ -1,8 +1,8 @@
 -- Bounds at a power: `A ^ k * u ≤ B ^ k * v` says that A is at most B times the k-th root of v / u. Such bounds are multiplied, and shown in two stages.
 -- Every power is a variable here, so that nothing large is worked out.
-use mathlib.Core.Path.{_≡_, sym}
-use Prim.Native.Nat.{ℕ, zero, suc, _+_, _*_, _^_, _≤_, _<_}
-use native.Mathlib.Nat.{le-trans, le-of-eq, mul-comm, mul-assoc, mul-left-comm, mul-zero, mul-suc, mul-mul-mul-comm}
+use mathlib.Core.Path.{_≡_}
+use Prim.Native.Nat.{ℕ, zero, suc, _*_, _^_, _≤_, _<_}
+use native.Mathlib.Nat.{le-trans, mul-comm, mul-assoc, mul-left-comm, mul-zero, mul-suc, mul-mul-mul-comm}
 use native.Mathlib.Nat.{mul-le-mul, mul-le-mul-left, le-of-mul-le-mul-left, one-le-pow, pow-zero, pow-suc, pow-le-pow-left}
 use lib.Pow.{pow-add}
 

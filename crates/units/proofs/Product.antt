@@ -1,8 +1,8 @@
 -- The product of two entries, HIGH[i] and LOW[j], rounded once: a whole number R of units of 2 ^ -34, whose 3072nd power is within one part in 2 ^ 22 of the exact
 -- one. Of the four parts in 2 ^ 24 each entry takes less than one, and the rounding two.
-use mathlib.Core.Path.{_≡_, sym, _∙_}
+use mathlib.Core.Path.{_≡_, sym}
 use mathlib.Core.Bool.{false}
-use Prim.Native.Nat.{ℕ, suc, _+_, _*_, _/_, _%_, _^_, _≤_, _<_, compare}
+use Prim.Native.Nat.{ℕ, _+_, _*_, _/_, _%_, _^_, _≤_, _<_, compare}
 use native.Mathlib.Nat.{le-of-lt, lt-of-le-of-lt, mul-comm, mul-assoc, mul-left-comm, mul-one, mul-pos, div-mul-le-self, lt-div-mul-add, le-div-iff-mul-le}
 use native.Mathlib.Nat.{mul-le-mul, mul-le-mul-left, mul-le-mul-right, mul-lt-mul-of-pos-right, le-of-mul-le-mul-right, lt-of-lt-of-le}
 use native.Mathlib.Omega.{arith}
@@ -20,7 +20,7 @@ use Rattle.ieee754.specs.Single.{_⊗_}
 use Rattle.units.specs.Tables.{«LUT_PITCH_RATIO_HIGH», «LUT_PITCH_RATIO_LOW»}
 use Rattle.units.proofs.Fractions.{revalued, product}
 use Rattle.units.proofs.Powers.{mul-pow, pow-mul, joined}
-use Rattle.units.proofs.Entries.{Entry, high-entry, low-entry}
+use Rattle.units.proofs.Entries.{high-entry, low-entry}
 
 -- ---- n / den is rounded to `grid` whole ones, off by less than one in the last of the 24 digits that are kept
 module _ (n den : ℕ) (D : 0 < den) (normal : 24 ≤ size (n / den)) where

@@ -1,9 +1,7 @@
 -- The loop's law of `Buffer`, turn by turn; `process` is its stage.
 use borrow.Author.Needs.{needs}
-use Prim.Native.Nat.{_-_, _<_, _≤_, min}
+use Prim.Native.Nat.{_-_}
 use native.Mathlib.Omega.{arith}
-use lib.ListN.{length}
-use denote.Ref.{now}
 use Rattle.filter.proofs.Buffer.{Filtering, begin-filtering, turn-filtering, end-filtering}
 use Rattle.filter.proofs.Svf.process_buffer.Statement.{statement}
 use Rattle.filter.proofs.Svf.process_buffer.Tie as tie

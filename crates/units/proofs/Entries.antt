@@ -1,5 +1,5 @@
--- Each entry of a table is a whole number of units, and within one part in 17,000,000 of the power of two that its place names: HIGH[i] of 2 ^ ((i - 128) / 12)
--- in units of 2 ^ -34, LOW[j] of 2 ^ (j / 3072) in units of 2 ^ -23. One test for both tables, worked out by antt at each entry.
+-- Each entry of a table is a whole number of units, and within one part in 17,000,000 of the power of two that its place names:
+-- HIGH[i] of 2 ^ ((i - 128) / 12) in units of 2 ^ -34, LOW[j] of 2 ^ (j / 3072) in units of 2 ^ -23. One test for both tables, worked out by antt.
 use mathlib.Core.Path.{_≡_, ap, _∙_}
 use mathlib.Core.Bool.{Bool, false, _&&_}
 use Prim.Native.Nat.{ℕ, suc, _+_, _-_, _*_, _/_, _%_, _^_, _≤_, _<_}
@@ -85,25 +85,19 @@ passed k e x t =
     let near = both (leb (target e) (quotient 16999999 z e ^ 12)) (leb (suc (quotient 17000001 z e) ^ 12) (target e)) (q .1) in
     record {
       units = a;
-      value = revalued x (num x) (den x) a (2 ^ k) (den-pos x) (omega (arith, div-add-mod' n (den x), eqb→eq (n % den x) 0 (whole .1))) (own-value x (whole .0));
+      value =
+          revalued x (num x) (den x) a (2 ^ k) (den-pos x) (omega (arith, div-add-mod' n (den x), eqb→eq (n % den x) 0 (whole .1)))
+          (own-value x (whole .0));
       low = leb→le (2 ^ 23) a (sized .0);
       high = ltb→lt a (2 ^ 45) (sized .1);
       least = least 16999999 z e (leb→le _ _ (near .0));
       most = most 17000001 z e (mul-pos (lit< tt) (pow-pos (shift e))) (leb→le _ _ (near .1));
     }
 
-high-passes : T (every (λ i. passes 34 (256 * i + 71680)) «LUT_PITCH_RATIO_HIGH»)
-unfolding «LUT_PITCH_RATIO_HIGH» round
-high-passes = tt
-
-low-passes : T (every (λ j. passes 23 (70656 + j)) «LUT_PITCH_RATIO_LOW»)
-unfolding «LUT_PITCH_RATIO_LOW» round
-low-passes = tt
-
 pub high-entry : (i : ℕ) → i < 256 → Entry 34 (256 * i + 71680) (getD «LUT_PITCH_RATIO_HIGH» i nan)
-unfolding «LUT_PITCH_RATIO_HIGH»
-high-entry i h = passed 34 _ _ (at (λ i. passes 34 (256 * i + 71680)) «LUT_PITCH_RATIO_HIGH» high-passes i h)
+unfolding «LUT_PITCH_RATIO_HIGH» round
+high-entry i h = passed 34 _ _ (at (λ i. passes 34 (256 * i + 71680)) «LUT_PITCH_RATIO_HIGH» tt i h)
 
 pub low-entry : (j : ℕ) → j < 256 → Entry 23 (70656 + j) (getD «LUT_PITCH_RATIO_LOW» j nan)
-unfolding «LUT_PITCH_RATIO_LOW»
-low-entry j h = passed 23 _ _ (at (λ j. passes 23 (70656 + j)) «LUT_PITCH_RATIO_LOW» low-passes j h)
+unfolding «LUT_PITCH_RATIO_LOW» round
+low-entry j h = passed 23 _ _ (at (λ j. passes 23 (70656 + j)) «LUT_PITCH_RATIO_LOW» tt j h)

@@ -96,7 +96,8 @@ module _ {M : Type 1} (𝓤 : URA M) (H : Heap 𝓤) (A : Atoms 𝓤) (W : Given
       -- the context, as the switch is reached: local 2 is not yet stored
       abbrev held : List (Item 𝓤)
       held =
-          ‵ (froom single l₂ 0) ∷ ‵ (fdies single l₂) ∷ ‵ (fat fullShare (tyInt w8) l₁ 0 (vint w8 i)) ∷ ‵ (fdies (tyInt w8) l₁) ∷ ‵ (froom single l₀ 0) ∷ ‵ (fdies single l₀) ∷ []
+          ‵ (froom single l₂ 0) ∷ ‵ (fdies single l₂) ∷ ‵ (fat fullShare (tyInt w8) l₁ 0 (vint w8 i)) ∷ ‵ (fdies (tyInt w8) l₁)
+          ∷ ‵ (froom single l₀ 0) ∷ ‵ (fdies single l₀) ∷ []
 
       -- the arm that runs stores the entry at i, which is returned
       stores : (x : Float) → T (fits binary32 x) → x ≡ getD xs i nan → Seq Go W held (runs C Λ E (entry x) Then)

@@ -1,5 +1,5 @@
--- Bounds at a power: `A ^ k * u ≤ B ^ k * v` says that A is at most B times the k-th root of v / u. Such bounds are multiplied, and shown in two stages.
--- Every power is a variable here, so that nothing large is worked out.
+-- Bounds at a power: `A ^ k * u ≤ B ^ k * v` says that A is at most B times the k-th root of v / u.
+-- How such bounds are multiplied, and shown in two stages. Every power is a variable here, so that nothing large is worked out.
 use mathlib.Core.Path.{_≡_}
 use Prim.Native.Nat.{ℕ, zero, suc, _*_, _^_, _≤_, _<_}
 use native.Mathlib.Nat.{le-trans, mul-comm, mul-assoc, mul-left-comm, mul-zero, mul-suc, mul-mul-mul-comm}

@@ -60,8 +60,8 @@ module _ (q : ℕ) (Q : 2 ^ 46 ≤ q) (Q' : q < 2 ^ 90) where
       (revalued (round binary32 false (q * 2 ^ 115) (2 ^ 172)) (rounded q * 2 ^ 115) (2 ^ 149) (rounded q) (2 ^ 34) (pow-pos 149)
       (mul-assoc (rounded q) (2 ^ 115) (2 ^ 34)) (rw scaled at (round-val binary32 (q * 2 ^ 115) (2 ^ 172) (rw scaled fits))))
 
--- ---- The bounds of the two entries h and l and of the rounding, multiplied. An entry is within X / N, the rounding within G / H and the result within Y / M;
--- the second entry counts in units of 1 / D.
+-- ---- The bounds of the two entries h and l and of the rounding, multiplied: X / N of an entry, G / H of the rounding, and so Y / M of the result R.
+-- l counts in units of 1 / D.
 module _ (k N X G H M Y h l R D U W : ℕ) (some : 0 < h * l) (x : 0 < X * (X * D)) (g : 0 < G) (n : 0 < N * N * H) where
   abbrev P : ℕ
   P = X * (X * D) * (G * (h * l) * (N * N * H))
@@ -88,6 +88,7 @@ module _ (k N X G H M Y h l R D U W : ℕ) (some : 0 < h * l) (x : 0 < X * (X * 
   at-most a b c d =
       rw (mul-one ((M * R) ^ k)) at (joined k P (M * R) Y (N * h) X (N * l) (X * D) _ _ 1 U 1 W room made exact a (rw split at b) (mul-le-mul c d))
 
+-- the power that LOW[j] is compared with, in units of 2 ^ -23
 lowered : (k j : ℕ) → 2 ^ (23 * k + j) ≡ (2 ^ 23) ^ k * 2 ^ j
 lowered k j = rw (pow-add 2 (23 * k) j, pow-mul 2 23 k)
 
@@ -107,6 +108,7 @@ close-at i j n hi hj e =
     let Q' = lt-of-le-of-lt (mul-le-mul-left h (le-of-lt (b .high))) (mul-lt-mul-of-pos-right (a .high) (pow-pos 45)) in
     let some = lt-of-lt-of-le (pow-pos 46) Q in
     let r = near (h * l) Q Q' in
+    let U = 2 ^ (256 * i + 71680) in
     let x = getD «LUT_PITCH_RATIO_HIGH» i nan in
     let y = getD «LUT_PITCH_RATIO_LOW» j nan in
     record {
@@ -114,10 +116,10 @@ close-at i j n hi hj e =
       whole = rw (product binary32 x y h (2 ^ 34) l (2 ^ 23) (pow-pos 34) (pow-pos 23) (a .value) (b .value)) (value (h * l) Q Q');
       least =
           rw (← pow-add 2 (256 * i + 71680) j, e) at
-          (at-least 3072 17000000 16999999 8388607 8388608 4194304 4194303 h l (rounded (h * l)) (2 ^ 23) (2 ^ (256 * i + 71680)) (2 ^ j) some (lit< tt) (lit< tt) (lit< tt) (a .least)
-          (rw (lowered 3072 j) at (b .least)) (r .0) (lit≤ tt));
+          (at-least 3072 17000000 16999999 8388607 8388608 4194304 4194303 h l (rounded (h * l)) (2 ^ 23) U (2 ^ j) some (lit< tt) (lit< tt) (lit< tt)
+          (a .least) (rw (lowered 3072 j) at (b .least)) (r .0) (lit≤ tt));
       most =
           rw (← pow-add 2 (256 * i + 71680) j, e) at
-          (at-most 3072 17000000 17000001 8388609 8388608 4194304 4194305 h l (rounded (h * l)) (2 ^ 23) (2 ^ (256 * i + 71680)) (2 ^ j) some (lit< tt) (lit< tt) (lit< tt) (a .most)
-          (rw (lowered 3072 j) at (b .most)) (r .1) (lit≤ tt));
+          (at-most 3072 17000000 17000001 8388609 8388608 4194304 4194305 h l (rounded (h * l)) (2 ^ 23) U (2 ^ j) some (lit< tt) (lit< tt) (lit< tt)
+          (a .most) (rw (lowered 3072 j) at (b .most)) (r .1) (lit≤ tt));
     }

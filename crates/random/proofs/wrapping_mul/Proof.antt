@@ -14,7 +14,8 @@ multiplied ah al bh bl = omega arith
 -- as the code puts them together: a number is shifted by 16 by a product with 2^16 or a quotient
 halves : (a b : ℕ) →
     ((a % 2 ^ 16 * (b % 2 ^ 16) + a / 2 ^ 16 * (b % 2 ^ 16) * 2 ^ 16 % 2 ^ 32) % 2 ^ 32 + a % 2 ^ 16 * (b / 2 ^ 16) * 2 ^ 16 % 2 ^ 32) % 2 ^ 32 ≡ a * b % 2 ^ 32
-halves a b = omega (arith, rw (div-add-mod' a (2 ^ 16), div-add-mod' b (2 ^ 16)) at (multiplied (a / 2 ^ 16) (a % 2 ^ 16) (b / 2 ^ 16) (b % 2 ^ 16)))
+halves a b =
+    omega (arith, rw (div-add-mod' a (2 ^ 16), div-add-mod' b (2 ^ 16)) at (multiplied (a / 2 ^ 16) (a % 2 ^ 16) (b / 2 ^ 16) (b % 2 ^ 16)))
 
 pub wrapping-mul-spec : {M : Type 1} → statement M
 wrapping-mul-spec =

@@ -29,6 +29,6 @@ loop-again c =
 pub process-buffer-spec : {M : Type 1} → statement M
 process-buffer-spec =
     tie.close
-    (tie.spec Inv-loop μ-loop (λ c κs. search needs) (λ c. begin _ _ _ _ (simp length-take (omega arith))) (λ c. search needs) (λ c. search needs) (λ c κs. search needs)
-    (λ c. search needs) (λ c. search needs) (λ c. search needs) (λ c. search needs) loop-again
+    (tie.spec Inv-loop μ-loop (λ c κs. search needs) (λ c. begin _ _ _ _ (simp length-take (omega arith))) (λ c. search needs) (λ c. search needs)
+    (λ c κs. search needs) (λ c. search needs) (λ c. search needs) (λ c. search needs) (λ c. search needs) loop-again
     (λ c. c .before .loop .inv .long) (λ c. end _ _ _ _ _ _ _ (c .before .loop .inv) (simp length-take (omega arith))))

@@ -12,7 +12,7 @@ use Rattle.ieee754.specs.Single.{_⊗_, decimal}
 use Rattle.units.specs.Units.{pitchOf, ratioAt, ratio}
 use Rattle.units.specs.Accuracy.{floor256, Accurate, InTables}
 use Rattle.units.proofs.PitchPlaces.{integral, step, Places, places}
-use Rattle.units.proofs.Product.{close-at}
+use Rattle.units.proofs.Product.{accurate-at}
 
 -- ---- what is below 256 is not 256 or more
 apart : (p : Float) → T (lt p (decimal 256 0)) → T (le (decimal 256 0) p) → ⊥
@@ -55,7 +55,5 @@ module _ (semitones : Float) where
       rw (e, at .remainder, below) (
         refl,
         λ h.
-            let n = floor256 p + 71680 in
-            let c = close-at (integral p) (step p) n (at .integral-below) (at .step-below) (omega (arith, at .floored (h .0))) in
-            record { R = c .R; whole = c .whole; n = n; n-is = exponent (floor256 p); least = c .least; most = c .most },
+            accurate-at semitones (integral p) (step p) (floor256 p + 71680) (exponent (floor256 p)) (omega (arith, at .floored (h .0))) (at .integral-below) (at .step-below),
       )

@@ -7,6 +7,7 @@ use native.Mathlib.Nat.{le-of-lt, lt-of-le-of-lt, mul-comm, mul-assoc, mul-left-
 use native.Mathlib.Nat.{mul-le-mul, mul-le-mul-left, mul-le-mul-right, mul-lt-mul-of-pos-right, le-of-mul-le-mul-right, lt-of-lt-of-le}
 use native.Mathlib.Omega.{arith}
 use lib.Dec.{lit<, lit≤}
+use lib.IntN.{pos, _+ℤ_}
 use lib.ListN.{getD}
 use lib.Pow.{pow-add, pow-pos, shl-lt}
 use lib.Ieee.{Float, nan, binary32, size, round}
@@ -16,8 +17,9 @@ use lib.Ieee.Fits.{nearest-le}
 use lib.Ieee.Nearest.{nearest-ge}
 use lib.Ieee.Order.{drop, kept}
 use lib.Ieee.Scale.{grid, round-same, round-val, grid-scale, normal-of-fraction}
-use Rattle.ieee754.specs.Single.{_⊗_}
 use Rattle.units.specs.Tables.{«LUT_PITCH_RATIO_HIGH», «LUT_PITCH_RATIO_LOW»}
+use Rattle.units.specs.Units.{pitchOf, ratioAt}
+use Rattle.units.specs.Accuracy.{g, Accurate}
 use Rattle.units.proofs.Fractions.{revalued, product}
 use Rattle.units.proofs.Powers.{mul-pow, pow-mul, joined}
 use Rattle.units.proofs.Entries.{high-entry, low-entry}
@@ -92,14 +94,10 @@ module _ (k N X G H M Y h l R D U W : ℕ) (some : 0 < h * l) (x : 0 < X * (X * 
 lowered : (k j : ℕ) → 2 ^ (23 * k + j) ≡ (2 ^ 23) ^ k * 2 ^ j
 lowered k j = rw (pow-add 2 (23 * k) j, pow-mul 2 23 k)
 
-pub record Close (n : ℕ) (r : Float) : Type 0 where
-  pub R : ℕ
-  pub whole : HasValue r false R (2 ^ 34)
-  pub least : 4194303 ^ 3072 * 2 ^ n ≤ (4194304 * R) ^ 3072
-  pub most : (4194304 * R) ^ 3072 ≤ 4194305 ^ 3072 * 2 ^ n
-
-pub close-at : (i j n : ℕ) → i < 256 → j < 256 → 256 * i + 71680 + j ≡ n → Close n (getD «LUT_PITCH_RATIO_HIGH» i nan ⊗ getD «LUT_PITCH_RATIO_LOW» j nan)
-close-at i j n hi hj e =
+-- n is 3072 times the exponent, plus 104448
+pub accurate-at : (semitones : Float) (i j n : ℕ) → pos n ≡ g (pitchOf semitones) +ℤ pos 104448 → 256 * i + 71680 + j ≡ n → i < 256 → j < 256
+    → Accurate semitones (ratioAt i j)
+accurate-at semitones i j n n-is e hi hj =
     let a = high-entry i hi in
     let b = low-entry j hj in
     let h = a .units in
@@ -114,6 +112,8 @@ close-at i j n hi hj e =
     record {
       R = rounded (h * l);
       whole = rw (product binary32 x y h (2 ^ 34) l (2 ^ 23) (pow-pos 34) (pow-pos 23) (a .value) (b .value)) (value (h * l) Q Q');
+      n = n;
+      n-is = n-is;
       least =
           rw (← pow-add 2 (256 * i + 71680) j, e) at
           (at-least 3072 17000000 16999999 8388607 8388608 4194304 4194303 h l (rounded (h * l)) (2 ^ 23) U (2 ^ j) some (lit< tt) (lit< tt) (lit< tt)

@@ -27,31 +27,31 @@ pub record Entry (k e : ℕ) (x : Float) : Type 0 where
   pub least : 16999999 ^ 3072 * 2 ^ e ≤ (17000000 * units) ^ 3072 * 1
   pub most : (17000000 * units) ^ 3072 * 1 ≤ 17000001 ^ 3072 * 2 ^ e
 
--- ---- The root, in two stages: the quotient of 256th powers, less its last `shift e` digits, is compared at the 12th power.
+-- ---- The root, in two stages: the quotient of 64th powers, less its last `shift e` digits, is compared at the 48th.
 abbrev shift : ℕ → ℕ
-shift e = e / 12 - 64
+shift e = e / 48 - 32
 
 abbrev target : ℕ → ℕ
-target e = 2 ^ (e - shift e * 12)
+target e = 2 ^ (e - shift e * 48)
 
 abbrev quotient : ℕ → ℕ → ℕ → ℕ
-quotient X z e = z ^ 256 / (X ^ 256 * 2 ^ shift e)
+quotient X z e = z ^ 64 / (X ^ 64 * 2 ^ shift e)
 
-shifted : (e : ℕ) → 2 ^ e ≡ target e * (2 ^ shift e) ^ 12
-shifted e = pow-split (shift e * 12) e (omega arith) ∙ ap (λ (z : ℕ). target e * z) (pow-mul 2 (shift e) 12)
+shifted : (e : ℕ) → 2 ^ e ≡ target e * (2 ^ shift e) ^ 48
+shifted e = pow-split (shift e * 48) e (omega arith) ∙ ap (λ (z : ℕ). target e * z) (pow-mul 2 (shift e) 48)
 
 module _ (X z e : ℕ) where
-  least : target e ≤ quotient X z e ^ 12 → X ^ 3072 * 2 ^ e ≤ z ^ 3072 * 1
+  least : target e ≤ quotient X z e ^ 48 → X ^ 3072 * 2 ^ e ≤ z ^ 3072 * 1
   least h =
       let p = quotient X z e in
-      staged 256 12 X z (p * 2 ^ shift e) 1 (2 ^ e) 1 (omega (arith, div-mul-le-self (z ^ 256) (X ^ 256 * 2 ^ shift e)))
-      (rw (shifted e, mul-pow p (2 ^ shift e) 12) (mul-le-mul-right ((2 ^ shift e) ^ 12) h)) (lit≤ tt)
+      staged 64 48 X z (p * 2 ^ shift e) 1 (2 ^ e) 1 (omega (arith, div-mul-le-self (z ^ 64) (X ^ 64 * 2 ^ shift e)))
+      (rw (shifted e, mul-pow p (2 ^ shift e) 48) (mul-le-mul-right ((2 ^ shift e) ^ 48) h)) (lit≤ tt)
 
-  most : 0 < X ^ 256 * 2 ^ shift e → suc (quotient X z e) ^ 12 ≤ target e → z ^ 3072 * 1 ≤ X ^ 3072 * 2 ^ e
+  most : 0 < X ^ 64 * 2 ^ shift e → suc (quotient X z e) ^ 48 ≤ target e → z ^ 3072 * 1 ≤ X ^ 3072 * 2 ^ e
   most room h =
       let p = suc (quotient X z e) in
-      staged 256 12 z X 1 (p * 2 ^ shift e) 1 (2 ^ e) (omega (arith, lt-div-mul-add {a = z ^ 256} room)) (lit≤ tt)
-      (rw (shifted e, mul-pow p (2 ^ shift e) 12) (mul-le-mul-right ((2 ^ shift e) ^ 12) h))
+      staged 64 48 z X 1 (p * 2 ^ shift e) 1 (2 ^ e) (omega (arith, lt-div-mul-add {a = z ^ 64} room)) (lit≤ tt)
+      (rw (shifted e, mul-pow p (2 ^ shift e) 48) (mul-le-mul-right ((2 ^ shift e) ^ 48) h))
 
 -- ---- the test of an entry
 abbrev count : ℕ → Float → ℕ
@@ -64,7 +64,7 @@ abbrev isSized : ℕ → Bool
 isSized a = leb (2 ^ 23) a && ltb a (2 ^ 45)
 
 abbrev isNear : ℕ → ℕ → Bool
-isNear e a = leb (target e) (quotient 16999999 (17000000 * a) e ^ 12) && leb (suc (quotient 17000001 (17000000 * a) e) ^ 12) (target e)
+isNear e a = leb (target e) (quotient 16999999 (17000000 * a) e ^ 48) && leb (suc (quotient 17000001 (17000000 * a) e) ^ 48) (target e)
 
 abbrev passes : ℕ → ℕ → Float → Bool
 passes k e x = isWhole k x && (isSized (count k x) && isNear e (count k x))
@@ -82,7 +82,7 @@ passed k e x t =
     let q = both (isSized a) (isNear e a) (p .1) in
     let whole = both (positive x) (eqb (n % den x) 0) (p .0) in
     let sized = both (leb (2 ^ 23) a) (ltb a (2 ^ 45)) (q .0) in
-    let near = both (leb (target e) (quotient 16999999 z e ^ 12)) (leb (suc (quotient 17000001 z e) ^ 12) (target e)) (q .1) in
+    let near = both (leb (target e) (quotient 16999999 z e ^ 48)) (leb (suc (quotient 17000001 z e) ^ 48) (target e)) (q .1) in
     record {
       units = a;
       value =

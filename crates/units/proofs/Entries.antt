@@ -1,145 +1,103 @@
--- Each entry of a table is a whole number of units, and within one part in 2 ^ 24 of the power of two that its place names: HIGH[i] of 2 ^ ((i - 128) / 12) in
--- units of 2 ^ -34, LOW[j] of 2 ^ (j / 3072) in units of 2 ^ -23. One test for each table, worked out by antt.
-use mathlib.Core.Path.{_≡_, refl, sym, ap, _∙_}
-use mathlib.Core.Bool.{Bool, true, false, _&&_}
-use mathlib.Core.List.{List}
-use Prim.Native.Nat.{ℕ, suc, _+_, _*_, _/_, _%_, _^_, _≤_, _<_}
-use native.Mathlib.Nat.{add-zero, div-add-mod', le-of-eq, mul-le-mul-right, mul-right-comm}
+-- Each entry of a table is a whole number of units, and within one part in 17,000,000 of the power of two that its place names:
+-- HIGH[i] of 2 ^ ((i - 128) / 12) in units of 2 ^ -34, LOW[j] of 2 ^ (j / 3072) in units of 2 ^ -23. One test for both tables, worked out by antt.
+use mathlib.Core.Path.{_≡_, ap, _∙_}
+use mathlib.Core.Bool.{Bool, false, _&&_}
+use Prim.Native.Nat.{ℕ, suc, _+_, _-_, _*_, _/_, _%_, _^_, _≤_, _<_}
+use native.Mathlib.Nat.{div-add-mod', div-mul-le-self, lt-div-mul-add, mul-pos, mul-le-mul-right}
 use native.Mathlib.Omega.{arith}
-use lib.Dec.{T, leb, ltb, eqb, leb→le, ltb→lt, eqb→eq, lit<}
-use lib.ListN.{getD, length}
-use lib.Pow.{pow-add}
-use lib.Ieee.{Float, nan, inf, fin, up, down, round}
+use lib.Dec.{T, leb, ltb, eqb, leb→le, ltb→lt, eqb→eq, lit<, lit≤}
+use lib.ListN.{getD}
+use lib.Pow.{pow-pos}
+use lib.Ieee.{Float, nan, round}
 use lib.Ieee.Fits.{and-l, and-r}
 use lib.Ieee.Exact.{HasValue}
+use lib.Ieee.Positive.{num, den, den-pos, positive, own-value}
+use Rattle.ieee754.proofs.Numbers.{pow-split}
 use Rattle.units.specs.Tables.{«LUT_PITCH_RATIO_HIGH», «LUT_PITCH_RATIO_LOW»}
 use Rattle.units.proofs.Table.{every, at}
-use Rattle.units.proofs.Powers.{mul-pow, pow-mul, staged-least, staged-most, quotient-least, quotient-most}
+use Rattle.units.proofs.Fractions.{revalued}
+use Rattle.units.proofs.Powers.{mul-pow, pow-mul, staged}
 
--- ---- x in units of 2 ^ -k, and whether their number is whole
-abbrev count : ℕ → Float → ℕ
-count k nan = 0
-count k (inf s) = 0
-count k (fin s m e) = m * up e * 2 ^ k / down e
-
-abbrev isWhole : ℕ → Float → Bool
-isWhole k nan = false
-isWhole k (inf s) = false
-isWhole k (fin true m e) = false
-isWhole k (fin false m e) = eqb (m * up e * 2 ^ k % down e) 0
-
-counted : (k : ℕ) (x : Float) → T (isWhole k x) → HasValue x false (count k x) (2 ^ k)
-counted k nan t = absurd t
-counted k (inf s) t = absurd t
-counted k (fin true m e) t = absurd t
-counted k (fin false m e) t =
-    let n = m * up e * 2 ^ k in
-    (refl, sym (div-add-mod' n (down e)) ∙ ap (λ (z : ℕ). n / down e * down e + z) (eqb→eq (n % down e) 0 t) ∙ add-zero (n / down e * down e))
-
--- ---- what an entry x of a table is known to be
--- a is within one part in 2 ^ 24 of the 3072nd root of u
-pub record Near (u a : ℕ) : Type 0 where
-  pub least : 16777215 ^ 3072 * u ≤ (16777216 * a) ^ 3072
-  pub most : (16777216 * a) ^ 3072 ≤ 16777217 ^ 3072 * u
-
-pub record Entry (k top u : ℕ) (x : Float) : Type 0 where
+-- x in units of 2 ^ -k, `units` of them, which is within one part in 17,000,000 of the 3072nd root of 2 ^ e
+pub record Entry (k e : ℕ) (x : Float) : Type 0 where
   pub units : ℕ
   pub value : HasValue x false units (2 ^ k)
   pub low : 2 ^ 23 ≤ units
-  pub high : units < 2 ^ top
-  pub near : Near u units
+  pub high : units < 2 ^ 45
+  pub least : 16999999 ^ 3072 * 2 ^ e ≤ (17000000 * units) ^ 3072 * 1
+  pub most : (17000000 * units) ^ 3072 * 1 ≤ 17000001 ^ 3072 * 2 ^ e
 
-abbrev passes : (k top : ℕ) → (ℕ → ℕ → Bool) → ℕ → Float → Bool
-passes k top isNear i x = isWhole k x && leb (2 ^ 23) (count k x) && ltb (count k x) (2 ^ top) && isNear i (count k x)
+-- ---- The root, in two stages: the quotient of 64th powers, less its last `shift e` digits, is compared at the 48th.
+abbrev shift : ℕ → ℕ
+shift e = e / 48 - 32
 
--- the law that carries a table's test to each of its entries
-entry : (k top : ℕ) (isNear : ℕ → ℕ → Bool) (u : ℕ → ℕ) → ((i a : ℕ) → T (isNear i a) → Near (u i) a)
-    → (table : List Float) → T (every (passes k top isNear) table) → (i : ℕ) → i < length table → Entry k top (u i) (getD table i nan)
-entry k top isNear u near table t i h =
-    let x = getD table i nan in
-    let a = isWhole k x in
-    let b = leb (2 ^ 23) (count k x) in
-    let c = ltb (count k x) (2 ^ top) in
-    let all = at (passes k top isNear) table t i h in
-    let three = and-l (a && b && c) (isNear i (count k x)) all in
-    let two = and-l (a && b) c three in
+abbrev target : ℕ → ℕ
+target e = 2 ^ (e - shift e * 48)
+
+abbrev quotient : ℕ → ℕ → ℕ → ℕ
+quotient X z e = z ^ 64 / (X ^ 64 * 2 ^ shift e)
+
+shifted : (e : ℕ) → 2 ^ e ≡ target e * (2 ^ shift e) ^ 48
+shifted e = pow-split (shift e * 48) e (omega arith) ∙ ap (λ (z : ℕ). target e * z) (pow-mul 2 (shift e) 48)
+
+module _ (X z e : ℕ) where
+  least : target e ≤ quotient X z e ^ 48 → X ^ 3072 * 2 ^ e ≤ z ^ 3072 * 1
+  least h =
+      let p = quotient X z e in
+      staged 64 48 X z (p * 2 ^ shift e) 1 (2 ^ e) 1 (omega (arith, div-mul-le-self (z ^ 64) (X ^ 64 * 2 ^ shift e)))
+      (rw (shifted e, mul-pow p (2 ^ shift e) 48) (mul-le-mul-right ((2 ^ shift e) ^ 48) h)) (lit≤ tt)
+
+  most : 0 < X ^ 64 * 2 ^ shift e → suc (quotient X z e) ^ 48 ≤ target e → z ^ 3072 * 1 ≤ X ^ 3072 * 2 ^ e
+  most room h =
+      let p = suc (quotient X z e) in
+      staged 64 48 z X 1 (p * 2 ^ shift e) 1 (2 ^ e) (omega (arith, lt-div-mul-add {a = z ^ 64} room)) (lit≤ tt)
+      (rw (shifted e, mul-pow p (2 ^ shift e) 48) (mul-le-mul-right ((2 ^ shift e) ^ 48) h))
+
+-- ---- the test of an entry
+abbrev count : ℕ → Float → ℕ
+count k x = num x * 2 ^ k / den x
+
+abbrev isWhole : ℕ → Float → Bool
+isWhole k x = positive x && eqb (num x * 2 ^ k % den x) 0
+
+abbrev isSized : ℕ → Bool
+isSized a = leb (2 ^ 23) a && ltb a (2 ^ 45)
+
+abbrev isNear : ℕ → ℕ → Bool
+isNear e a = leb (target e) (quotient 16999999 (17000000 * a) e ^ 48) && leb (suc (quotient 17000001 (17000000 * a) e) ^ 48) (target e)
+
+abbrev passes : ℕ → ℕ → Float → Bool
+passes k e x = isWhole k x && (isSized (count k x) && isNear e (count k x))
+
+-- the two halves of a test of two
+both : (a b : Bool) → T (a && b) → T a × T b
+both a b t = (and-l a b t, and-r a b t)
+
+passed : (k e : ℕ) (x : Float) → T (passes k e x) → Entry k e x
+passed k e x t =
+    let n = num x * 2 ^ k in
+    let a = count k x in
+    let z = 17000000 * a in
+    let p = both (isWhole k x) (isSized a && isNear e a) t in
+    let q = both (isSized a) (isNear e a) (p .1) in
+    let whole = both (positive x) (eqb (n % den x) 0) (p .0) in
+    let sized = both (leb (2 ^ 23) a) (ltb a (2 ^ 45)) (q .0) in
+    let near = both (leb (target e) (quotient 16999999 z e ^ 48)) (leb (suc (quotient 17000001 z e) ^ 48) (target e)) (q .1) in
     record {
-      units = count k x;
-      value = counted k x (and-l a b two);
-      low = leb→le (2 ^ 23) (count k x) (and-r a b two);
-      high = ltb→lt (count k x) (2 ^ top) (and-r (a && b) c three);
-      near = near i (count k x) (and-r (a && b && c) (isNear i (count k x)) all);
+      units = a;
+      value =
+          revalued x (num x) (den x) a (2 ^ k) (den-pos x) (omega (arith, div-add-mod' n (den x), eqb→eq (n % den x) 0 (whole .1)))
+          (own-value x (whole .0));
+      low = leb→le (2 ^ 23) a (sized .0);
+      high = ltb→lt a (2 ^ 45) (sized .1);
+      least = least 16999999 z e (leb→le _ _ (near .0));
+      most = most 17000001 z e (mul-pos (lit< tt) (pow-pos (shift e))) (leb→le _ _ (near .1));
     }
 
--- ---- HIGH: tested at the 12th power
-abbrev highNear : ℕ → ℕ → Bool
-highNear i a = leb (16777215 ^ 12 * 2 ^ (280 + i)) ((16777216 * a) ^ 12) && leb ((16777216 * a) ^ 12) (16777217 ^ 12 * 2 ^ (280 + i))
-
-raised : (i : ℕ) → (2 ^ (280 + i)) ^ 256 ≡ 2 ^ (256 * i + 71680)
-raised i =
-    let e : (280 + i) * 256 ≡ 256 * i + 71680 = omega arith in
-    sym (pow-mul 2 (280 + i) 256) ∙ ap (λ (z : ℕ). 2 ^ z) e
-
-high-near : (i a : ℕ) → T (highNear i a) → Near (2 ^ (256 * i + 71680)) a
-high-near i a t =
-    let z = 16777216 * a in
-    let w = 2 ^ (280 + i) in
-    let b = leb (16777215 ^ 12 * w) (z ^ 12) in
-    let c = leb (z ^ 12) (16777217 ^ 12 * w) in
-    record {
-      least = staged-least 12 256 16777215 z w (2 ^ (256 * i + 71680)) (leb→le (16777215 ^ 12 * w) (z ^ 12) (and-l b c t)) (le-of-eq (sym (raised i)));
-      most = staged-most 12 256 16777217 z w (2 ^ (256 * i + 71680)) (leb→le (z ^ 12) (16777217 ^ 12 * w) (and-r b c t)) (le-of-eq (raised i));
-    }
-
-high-passes : T (every (passes 34 45 highNear) «LUT_PITCH_RATIO_HIGH»)
+pub high-entry : (i : ℕ) → i < 256 → Entry 34 (256 * i + 71680) (getD «LUT_PITCH_RATIO_HIGH» i nan)
 unfolding «LUT_PITCH_RATIO_HIGH» round
-high-passes = tt
+high-entry i h = passed 34 _ _ (at (λ i. passes 34 (256 * i + 71680)) «LUT_PITCH_RATIO_HIGH» tt i h)
 
-pub high-entry : (i : ℕ) → i < 256 → Entry 34 45 (2 ^ (256 * i + 71680)) (getD «LUT_PITCH_RATIO_HIGH» i nan)
-unfolding «LUT_PITCH_RATIO_HIGH»
-high-entry i h = entry 34 45 highNear (λ i. 2 ^ (256 * i + 71680)) high-near «LUT_PITCH_RATIO_HIGH» high-passes i h
-
--- ---- LOW: tested at the 256th power, and the quotient there, less its last 5824 digits, at the 12th
-abbrev quotient : ℕ → ℕ → ℕ
-quotient X a = (16777216 * a) ^ 256 / (X ^ 256 * 2 ^ 5824)
-
-abbrev lowNear : ℕ → ℕ → Bool
-lowNear j a = leb (2 ^ (768 + j)) (quotient 16777215 a ^ 12) && leb (suc (quotient 16777217 a) ^ 12) (2 ^ (768 + j))
-
--- S stands for 2 ^ 5824, and E for (2 ^ 23) ^ 3072
-shifted : (t S E j : ℕ) → E ≡ 2 ^ 768 * S ^ 12 → (E * 2 ^ j ≡ 2 ^ (768 + j) * S ^ 12) × ((t * S) ^ 12 ≡ t ^ 12 * S ^ 12)
-shifted t S E j e = (rw (e, pow-add 2 768 j) (mul-right-comm (2 ^ 768) (S ^ 12) (2 ^ j)), mul-pow t S 12)
-
-scale : (2 ^ 23) ^ 3072 ≡ 2 ^ 768 * (2 ^ 5824) ^ 12
-scale = refl
-
-least-shifted : (t S E j : ℕ) → E ≡ 2 ^ 768 * S ^ 12 → 2 ^ (768 + j) ≤ t ^ 12 → E * 2 ^ j ≤ (t * S) ^ 12
-least-shifted t S E j e h = let s = shifted t S E j e in rw (s .0, s .1) (mul-le-mul-right (S ^ 12) h)
-
-most-shifted : (t S E j : ℕ) → E ≡ 2 ^ 768 * S ^ 12 → t ^ 12 ≤ 2 ^ (768 + j) → (t * S) ^ 12 ≤ E * 2 ^ j
-most-shifted t S E j e h = let s = shifted t S E j e in rw (s .0, s .1) (mul-le-mul-right (S ^ 12) h)
-
-low-near : (j a : ℕ) → T (lowNear j a) → Near ((2 ^ 23) ^ 3072 * 2 ^ j) a
-low-near j a t =
-    let z = 16777216 * a in
-    let S = 2 ^ 5824 in
-    let p = quotient 16777215 a in
-    let q = suc (quotient 16777217 a) in
-    let b = leb (2 ^ (768 + j)) (p ^ 12) in
-    let c = leb (q ^ 12) (2 ^ (768 + j)) in
-    record {
-      least =
-          staged-least 256 12 16777215 z (p * S) ((2 ^ 23) ^ 3072 * 2 ^ j) (quotient-least (16777215 ^ 256) S (z ^ 256))
-          (least-shifted p S ((2 ^ 23) ^ 3072) j scale (leb→le (2 ^ (768 + j)) (p ^ 12) (and-l b c t)));
-      most =
-          staged-most 256 12 16777217 z (q * S) ((2 ^ 23) ^ 3072 * 2 ^ j) (quotient-most (16777217 ^ 256) S (z ^ 256) (lit< tt))
-          (most-shifted q S ((2 ^ 23) ^ 3072) j scale (leb→le (q ^ 12) (2 ^ (768 + j)) (and-r b c t)));
-    }
-
-low-passes : T (every (passes 23 24 lowNear) «LUT_PITCH_RATIO_LOW»)
+pub low-entry : (j : ℕ) → j < 256 → Entry 23 (70656 + j) (getD «LUT_PITCH_RATIO_LOW» j nan)
 unfolding «LUT_PITCH_RATIO_LOW» round
-low-passes = tt
-
-pub low-entry : (j : ℕ) → j < 256 → Entry 23 24 ((2 ^ 23) ^ 3072 * 2 ^ j) (getD «LUT_PITCH_RATIO_LOW» j nan)
-unfolding «LUT_PITCH_RATIO_LOW»
-low-entry j h = entry 23 24 lowNear (λ j. (2 ^ 23) ^ 3072 * 2 ^ j) low-near «LUT_PITCH_RATIO_LOW» low-passes j h
+low-entry j h = passed 23 _ _ (at (λ j. passes 23 (70656 + j)) «LUT_PITCH_RATIO_LOW» tt j h)

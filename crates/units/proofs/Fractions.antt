@@ -1,40 +1,40 @@
 -- Differences and products of values that are known as fractions, zero included, and the sign of those that have a minus sign.
 use borrow.Author.Tests.{le-ltb}
-use mathlib.Core.Path.{_≡_, refl, sym, ap, _∙_}
+use mathlib.Core.Path.{_≡_, ap, _∙_}
 use mathlib.Core.Bool.{true, false, true≢false}
-use Prim.Native.Nat.{ℕ, _+_, _-_, _*_, _^_, _≤_, _<_}
-use native.Mathlib.Nat.{lt-of-lt-of-le, mul-comm, mul-assoc, mul-left-comm, mul-mul-mul-comm, mul-sub, mul-pos, mul-le-mul-right}
+use Prim.Native.Nat.{ℕ, _-_, _*_, _≤_, _<_}
+use native.Mathlib.Nat.{mul-comm, mul-assoc, mul-left-comm, mul-right-comm, mul-mul-mul-comm, mul-sub, mul-pos, mul-le-mul-right, eq-of-mul-eq-mul-right}
 use native.Mathlib.Omega.{arith}
-use lib.IntN.{ℤ, pos}
-use lib.Pow.{pow-add, pow-mono, shl-lt}
-use lib.Ieee.{Float, nan, inf, fin, Format, binary32, up, down, round, sum, sub, mul, ofInt}
+use lib.IntN.{ℤ}
+use lib.Ieee.{Float, nan, inf, fin, Format, up, down, round, sum, sub, mul}
 use lib.Ieee.Fits.{down-pos}
-use lib.Ieee.Exact.{HasValue, round-exact}
+use lib.Ieee.Exact.{HasValue}
 use lib.Ieee.Scale.{round-same}
-use Rattle.ieee754.specs.Operations.{isSignMinus}
-use Rattle.ieee754.proofs.Signs.{round-sign}
-use Rattle.ieee754.specs.Single.{decimal}
+
+-- ---- a / c that is b / d
+pub revalued : (x : Float) (a c b d : ℕ) → 0 < c → a * d ≡ b * c → HasValue x false a c → HasValue x false b d
+revalued nan a c b d C e v = v
+revalued (inf s) a c b d C e v = v
+revalued (fin s m k) a c b d C e v = (
+  v .0,
+  eq-of-mul-eq-mul-right c C _ _ (mul-right-comm (m * up k) d c ∙ rw (v .1, mul-right-comm a (down k) d, e) (mul-right-comm b c (down k))),
+)
 
 -- ---- m * 2 ^ e - i, for a whole i that is no larger
-sum-is : (f : Format) (a b c : ℕ) → b ≤ a → sum f false a true b c ≡ round f false (a - b) c
-unfolding sum
-sum-is f a b c h = rw (le-ltb a b h)
-
-spread : (x y c d : ℕ) → (x * d - y * d) * c ≡ (x - y) * (c * d)
-spread x y c d = rw (mul-comm x d, mul-comm y d, ← mul-sub d x y) (simp (mul-assoc, mul-comm, mul-left-comm))
-
 pub less-whole : (f : Format) (m : ℕ) (e : ℤ) (y : Float) (i : ℕ) → HasValue y false i 1 → i * down e ≤ m * up e
     → sub f (fin false m e) y ≡ round f false (m * up e - i * down e) (down e)
-unfolding sub
+unfolding sub sum
 less-whole f m e nan i v h = absurd v
 less-whole f m e (inf s) i v h = absurd v
 less-whole f m e (fin true n d) i v h = absurd (true≢false (v .0))
 less-whole f m e (fin false n d) i v h =
     let y : n * up d * down e ≡ i * down e * down d = omega (arith, ap (λ (z : ℕ). z * down e) (v .1)) in
-    ap (λ (z : ℕ). sum f false (m * up e * down d) true z (down e * down d)) y
-    ∙ sum-is f (m * up e * down d) (i * down e * down d) (down e * down d) (mul-le-mul-right (down d) h)
-    ∙ round-same f false (m * up e * down d - i * down e * down d) (down e * down d) (m * up e - i * down e) (down e) (mul-pos (down-pos e) (down-pos d)) (down-pos e)
-    (spread (m * up e) (i * down e) (down e) (down d))
+    rw (y, le-ltb (m * up e * down d) (i * down e * down d) (mul-le-mul-right (down d) h))
+    (round-same f false _ (down e * down d) (m * up e - i * down e) (down e) (mul-pos (down-pos e) (down-pos d)) (down-pos e)
+    (spread (m * up e) (i * down e) (down e) (down d)))
+  where
+    spread : (x y c d : ℕ) → (x * d - y * d) * c ≡ (x - y) * (c * d)
+    spread x y c d = rw (mul-comm x d, mul-comm y d, ← mul-sub d x y) (simp (mul-assoc, mul-comm, mul-left-comm))
 
 -- ---- a / c times b / d
 pub product : (f : Format) (x y : Float) (a c b d : ℕ) → 0 < c → 0 < d → HasValue x false a c → HasValue y false b d → mul f x y ≡ round f false (a * b) (c * d)
@@ -48,29 +48,3 @@ product f (fin false m e) (fin true n g) a c b d C D h k = absurd (true≢false 
 product f (fin false m e) (fin false n g) a c b d C D h k =
     round-same f false (m * up e * (n * up g)) (down e * down g) (a * b) (c * d) (mul-pos (down-pos e) (down-pos g)) (mul-pos C D)
     (mul-mul-mul-comm (m * up e) (n * up g) c d ∙ rw (h .1, k .1) (mul-mul-mul-comm a (down e) b (down g)))
-
--- ---- r * 2 ^ k / c, where r has at most 24 digits and c divides 2 ^ 149, is a value of single precision
-pub exact : (r k c j : ℕ) → 0 < c → r < 2 ^ 24 → j + k ≤ 200 → 2 ^ j * c ≡ 2 ^ 149 → HasValue (round binary32 false (r * 2 ^ k) c) false (r * 2 ^ k) c
-exact r k c j C R J goes =
-    round-exact binary32 false (r * 2 ^ k) c r (j + k) C R (lt-of-lt-of-le (shl-lt 24 (j + k) R) (pow-mono {i = 24 + (j + k)} {j = 277} (omega arith)))
-    (ap (λ (z : ℕ). r * 2 ^ k * z) (sym goes) ∙ simp (pow-add, mul-assoc, mul-comm, mul-left-comm))
-
--- ---- a minus sign stays
-
--- x - 0
-pub minus-less : (x : Float) → isSignMinus x ≡ true → isSignMinus (sub binary32 x (ofInt binary32 (pos 0))) ≡ true
-unfolding sub ofInt isSignMinus
-minus-less nan h = h
-minus-less (inf true) h = refl
-minus-less (inf false) h = h
-minus-less (fin true m e) h = round-sign binary32 true (m * up e * 1 + 0 * 1 * down e) (down e * 1)
-minus-less (fin false m e) h = absurd (true≢false (sym h))
-
--- 256 * x
-pub minus-times : (x : Float) → isSignMinus x ≡ true → isSignMinus (mul binary32 x (decimal 256 0)) ≡ true
-unfolding mul round isSignMinus
-minus-times nan h = h
-minus-times (inf true) h = refl
-minus-times (inf false) h = h
-minus-times (fin true m e) h = round-sign binary32 true (m * up e * 256) (down e * 1)
-minus-times (fin false m e) h = absurd (true≢false (sym h))

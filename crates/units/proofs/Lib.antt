@@ -1,10 +1,9 @@
 -- The laws of `units` beside the proofs of its functions.
 mod Powers
-mod Rounding
 mod Table
 mod Lookup
-mod Entries
 mod Fractions
+mod Entries
 mod PitchPlaces
 mod Product
 mod Accuracy

@@ -4,24 +4,25 @@
 use mathlib.Core.Path.{_≡_, refl, sym, ap, _∙_, subst}
 use mathlib.Core.Bool.{true, false, _&&_, true≢false}
 use Prim.Native.Nat.{ℕ, zero, suc, _+_, _-_, _*_, _/_, _%_, _^_, _≤_, _<_}
-use native.Mathlib.Nat.{le-trans, le-of-eq, le-of-lt, lt-of-le-of-lt, lt-of-lt-of-le, lt-of-not-le, not-le-of-lt}
-use native.Mathlib.Nat.{mul-comm, mul-assoc, mul-one, mul-add, le-mul-of-pos-right, min-eq-left}
-use native.Mathlib.Nat.{mod-lt, mod-le, mod-one, mod-eq-sub-div-mul, div-add-mod', div-mul-le-self, div-lt-iff-lt-mul, mul-add-div-right, zero-div}
+use native.Mathlib.Nat.{le-trans, le-of-lt, lt-of-le-of-lt, lt-of-lt-of-le, lt-of-not-le, not-le-of-lt, pow-suc}
+use native.Mathlib.Nat.{mul-comm, mul-assoc, mul-left-comm, mul-one, min-eq-left, mod-lt, mod-le, mod-eq-sub-div-mul}
+use native.Mathlib.Nat.{div-add-mod', div-mul-le-self, div-lt-iff-lt-mul, mul-add-div-right, zero-div}
 use native.Mathlib.Omega.{arith}
 use lib.Dec.{T, ltb, leb, eqb, ltb→lt, leb→le, eqb→eq, lit<, lit≤}
 use lib.IntN.{ℤ, pos, negsuc}
-use lib.Pow.{pow-mono}
-use lib.Ieee.{Float, nan, inf, fin, binary32, up, down, round, sub, mul, ofInt, toUnsigned, le, fits}
-use lib.Ieee.Fits.{up-pos, down-pos, and-l, and-r}
-use lib.Ieee.Exact.{HasValue}
+use lib.Pow.{pow-add, pow-pos, pow-lt, pow-mono, shl-lt}
+use lib.Ieee.{Float, nan, inf, fin, binary32, up, down, round, sum, sub, mul, ofInt, toUnsigned, le, fits}
+use lib.Ieee.Fits.{down-pos, and-l, and-r}
+use lib.Ieee.Exact.{HasValue, round-exact}
 use lib.Ieee.Back.{round-whole}
 use lib.Ieee.Order.{le-of-values}
 use Rattle.ieee754.specs.Operations.{isSignMinus}
 use Rattle.ieee754.specs.Single.{_⊖_, _⊗_, decimal}
 use Rattle.ieee754.proofs.Numbers.{pow-split}
+use Rattle.ieee754.proofs.Signs.{round-sign}
 use Rattle.ieee754.proofs.Whole.{unsigned-of-value, of-minus}
 use Rattle.units.specs.Accuracy.{floor256}
-use Rattle.units.proofs.Fractions.{less-whole, product, exact, minus-less, minus-times}
+use Rattle.units.proofs.Fractions.{less-whole, product}
 
 -- ---- i and j, as the Rust works them out
 abbrev pub integral : Float → ℕ
@@ -42,115 +43,87 @@ pub record Places (p : Float) : Type 0 where
 
 -- ---- a minus sign, and a NaN
 zeros : (p : Float) → integral p ≡ 0 → step p ≡ 0 → place p ≡ 0 → (T (le (decimal 0 0) p) → 0 ≡ floor256 p) → Places p
-zeros p i j n z =
-    record {
-      integral-below = rw i (lit< tt);
-      step-below = rw j (lit< tt);
-      remainder = rw (j, n);
-      floored = λ h. rw (j, i) (z h);
-    }
+zeros p i j n z = record { integral-below = rw i (lit< tt); step-below = rw j (lit< tt); remainder = rw (j, n); floored = λ h. rw (j, i) (z h) }
+
+-- 256 * x keeps a minus sign
+minus-times : (x : Float) → isSignMinus x ≡ true → toUnsigned 64 (x ⊗ decimal 256 0) ≡ 0
+unfolding mul round isSignMinus toUnsigned
+minus-times nan h = refl
+minus-times (inf s) h = rw h
+minus-times (fin s m e) h = rw h (sym (of-minus 64 (fin true m e ⊗ decimal 256 0) (round-sign binary32 true (m * up e * 256) (down e * 1))))
 
 -- of what has a minus sign only -0 is at least 0
-minus-zero : (m : ℕ) (e : ℤ) → T (le (decimal 0 0) (fin true m e)) → m * up e ≡ 0
+minus-zero : (m : ℕ) (e : ℤ) → T (le (decimal 0 0) (fin true m e)) → 0 ≡ 256 * (m * up e) / down e
 unfolding le round
-minus-zero m e t = omega (arith, eqb→eq (0 * down e) (m * up e * 1) (and-l (eqb (0 * down e) (m * up e * 1)) (eqb (0 * down e) 0) t))
+minus-zero m e t =
+    let z : 256 * (m * up e) ≡ 0 = omega (arith, eqb→eq (0 * down e) (m * up e * 1) (and-l (eqb (0 * down e) (m * up e * 1)) (eqb (0 * down e) 0) t)) in
+    sym (ap (λ (k : ℕ). k / down e) z ∙ zero-div (down e))
 
-minus : (p : Float) → isSignMinus p ≡ true → (T (le (decimal 0 0) p) → 0 ≡ floor256 p) → Places p
-minus p h =
-    let i : integral p ≡ 0 = sym (of-minus 64 p h) in
-    zeros p i (rw i (sym (of-minus 64 _ (minus-times _ (minus-less p h))))) (sym (of-minus 64 _ (minus-times p h)))
-
--- ---- m * 2 ^ e of single precision: m has at most 24 digits, and the denominator of 2 ^ e divides 2 ^ 149
-record Parts (m : ℕ) (e : ℤ) : Type 0 where
-  digits : m < 2 ^ 24
-  j : ℕ
-  j-le : j ≤ 149
-  goes : 2 ^ j * down e ≡ 2 ^ 149
-
-small : (m : ℕ) (e : ℤ) → T (fits binary32 (fin false m e)) → (m < 2 ^ 24) × (down e ≤ 2 ^ 149)
-unfolding fits
-small zero e t =
-    (lit< tt, le-trans (le-mul-of-pos-right (down e) (up-pos e)) (le-trans (le-of-eq (mul-comm (down e) (up e) ∙ eqb→eq (up e * down e) 1 t)) (lit≤ tt)))
-small (suc m) e t =
-    let a = eqb (suc m % 2) 1 in
-    let b = ltb (suc m) (2 ^ 24) in
-    let c = leb (down e) (2 ^ 149) in
-    let three = and-l (a && b && c) (ltb (suc m * up e) (2 ^ 128 * down e)) t in
-    (ltb→lt (suc m) (2 ^ 24) (and-r a b (and-l (a && b) c three)), leb→le (down e) (2 ^ 149) (and-r (a && b) c three))
-
-parts : (m : ℕ) (e : ℤ) → T (fits binary32 (fin false m e)) → Parts m e
-parts m (pos k) t = record { digits = small m (pos k) t .0; j = 149; j-le = lit≤ tt; goes = refl }
-parts m (negsuc k) t =
-    let s = small m (negsuc k) t in
-    let l : suc k ≤ 149 = omega (arith, lt-of-not-le (λ (g : 150 ≤ suc k). not-le-of-lt (lt-of-lt-of-le (lit< {m = 2 ^ 149} {n = 2 ^ 150} tt) (pow-mono g)) (s .1))) in
-    record { digits = s .0; j = 149 - suc k; j-le = omega arith; goes = sym (pow-split (suc k) 149 l) }
-
--- ---- without a minus sign: m * 2 ^ e is `whole` and `rest` / down e
-abbrev whole : ℕ → ℤ → ℕ
-whole m e = m * up e / down e
-
-abbrev rest : ℕ → ℤ → ℕ
-rest m e = m * up e % down e
-
-rest-le : (m : ℕ) (e : ℤ) → rest m e ≤ m
-rest-le m (pos k) = le-trans (le-of-eq (mod-one (m * 2 ^ k))) (omega arith)
-rest-le m (negsuc k) = le-trans (mod-le (m * 1) (2 ^ suc k)) (le-of-eq (mul-one m))
-
--- where 2 ^ e is not whole, up e is 1
-size-small : (m : ℕ) (e : ℤ) → m < 2 ^ 24 → m * up e < 256 * down e → m * up e < 2 ^ 24
-size-small m (pos k) d h = lt-of-lt-of-le h (lit≤ tt)
-size-small m (negsuc k) d h = rw mul-one d
-
+-- ---- Without a minus sign: m * 2 ^ e is m * up e / down e, of at most 24 digits, where down e divides 2 ^ 149.
 -- a value below 65536 without its fraction
 cut : (x : Float) (a c : ℕ) → 0 < c → HasValue x false a c → a / c < 65536 → toUnsigned 64 x ≡ a / c
 cut x a c C v h = unsigned-of-value 64 x a c C v ∙ min-eq-left (le-trans (le-of-lt h) (lit≤ tt))
 
-module _ (m : ℕ) (e : ℤ) (h : m * up e < 256 * down e) (t : T (fits binary32 (fin false m e))) where
-  whole-below : whole m e < 256
+module _ (m : ℕ) (e : ℤ) (h : m * up e < 256 * down e) (small : m * up e < 2 ^ 24) (n : ℕ) (N : n ≤ 149) (goes : 2 ^ n * down e ≡ 2 ^ 149) where
+  abbrev whole : ℕ
+  whole = m * up e / down e
+
+  abbrev rest : ℕ
+  rest = m * up e % down e
+
+  whole-below : whole < 256
   whole-below = div-lt-iff-lt-mul (down-pos e) .1 h
 
-  integral-is : integral (fin false m e) ≡ whole m e
-  integral-is = cut (fin false m e) (m * up e) (down e) (down-pos e) (refl, refl) (lt-of-lt-of-le whole-below (lit≤ tt))
+  rest-below : rest * 256 / down e < 256
+  rest-below = div-lt-iff-lt-mul (down-pos e) .1 (omega (arith, mod-lt (m * up e) (down-pos e)))
 
-  -- r * 2 ^ k / down e is exact, and 256 * r / down e has its whole part
-  exactly : (r k : ℕ) → r < 2 ^ 24 → k ≤ 8 → HasValue (round binary32 false (r * 2 ^ k) (down e)) false (r * 2 ^ k) (down e)
-  exactly r k R K = let p = parts m e t in exact r k (down e) (p .j) (down-pos e) R (omega (arith, p .j-le)) (p .goes)
+  parted : m * up e * 256 / down e ≡ 256 * whole + rest * 256 / down e
+  parted =
+      let a : m * up e * 256 ≡ 256 * whole * down e + rest * 256 = omega (arith, div-add-mod' (m * up e) (down e)) in
+      ap (λ (z : ℕ). z / down e) a ∙ mul-add-div-right (down-pos e) (256 * whole) (rest * 256)
+
+  -- r / down e is exact, and so is 256 times it
+  exact : (r k : ℕ) → r < 2 ^ 24 → k ≤ 8 → HasValue (round binary32 false (r * 2 ^ k) (down e)) false (r * 2 ^ k) (down e)
+  exact r k R K =
+      round-exact binary32 false (r * 2 ^ k) (down e) r (n + k) (down-pos e) R
+      (lt-of-lt-of-le (shl-lt 24 (n + k) R) (pow-mono {i = 24 + (n + k)} {j = 277} (omega arith)))
+      (rw (← goes) (simp (pow-add, mul-assoc, mul-comm, mul-left-comm)))
 
   times : (y : Float) (r : ℕ) → r < 2 ^ 24 → HasValue y false r (down e) → r * 256 / down e < 65536 → toUnsigned 64 (y ⊗ decimal 256 0) ≡ r * 256 / down e
   times y r R v =
       let c = round-whole binary32 false 256 (lit≤ tt) in
       cut (y ⊗ decimal 256 0) (r * 256) (down e) (down-pos e)
-      (rw (product binary32 y (decimal 256 0) r (down e) 256 1 (down-pos e) (lit< tt) v c, mul-one) (exactly r 8 R (omega arith)))
+      (rw (product binary32 y (decimal 256 0) r (down e) 256 1 (down-pos e) (lit< tt) v c, mul-one) (exact r 8 R (lit≤ tt)))
 
-  rest-small : rest m e < 2 ^ 24
-  rest-small = lt-of-le-of-lt (rest-le m e) (parts m e t .digits)
+  integral-is : integral (fin false m e) ≡ whole
+  integral-is = cut (fin false m e) (m * up e) (down e) (down-pos e) (refl, refl) (lt-of-lt-of-le whole-below (lit≤ tt))
 
-  whole-value : HasValue (ofInt binary32 (pos (whole m e))) false (whole m e) 1
+  place-is : place (fin false m e) ≡ 256 * whole + rest * 256 / down e
+  place-is = times (fin false m e) (m * up e) small (refl, refl) (rw parted (omega (arith, whole-below, rest-below))) ∙ parted
+
+  whole-value : HasValue (ofInt binary32 (pos whole)) false whole 1
   unfolding ofInt
-  whole-value = round-whole binary32 false (whole m e) (le-trans (le-of-lt whole-below) (lit≤ tt))
+  whole-value = round-whole binary32 false whole (le-trans (le-of-lt whole-below) (lit≤ tt))
 
-  difference : HasValue (fin false m e ⊖ ofInt binary32 (pos (whole m e))) false (rest m e) (down e)
+  rest-small : rest < 2 ^ 24
+  rest-small = lt-of-le-of-lt (mod-le (m * up e) (down e)) small
+
+  difference : HasValue (fin false m e ⊖ ofInt binary32 (pos whole)) false rest (down e)
   difference =
-      rw (less-whole binary32 m e _ (whole m e) whole-value (div-mul-le-self (m * up e) (down e)), ← mod-eq-sub-div-mul (m * up e) (down e))
-      (rw mul-one at (exactly (rest m e) 0 rest-small (omega arith)))
+      rw (less-whole binary32 m e _ whole whole-value (div-mul-le-self (m * up e) (down e)), ← mod-eq-sub-div-mul (m * up e) (down e))
+      (rw mul-one at (exact rest 0 rest-small (omega arith)))
 
-  rest-below : rest m e * 256 / down e < 256
-  rest-below = div-lt-iff-lt-mul (down-pos e) .1 (omega (arith, mod-lt (m * up e) (down-pos e)))
+  step-is : step (fin false m e) ≡ rest * 256 / down e
+  step-is = rw integral-is (times _ rest rest-small difference (lt-of-lt-of-le rest-below (lit≤ tt)))
 
-  step-is : step (fin false m e) ≡ rest m e * 256 / down e
-  step-is = rw integral-is (times _ (rest m e) rest-small difference (lt-of-lt-of-le rest-below (lit≤ tt)))
-
-  together : 256 * whole m e + rest m e * 256 / down e ≡ 256 * (m * up e) / down e
-  together =
-      sym (mul-add-div-right (down-pos e) (256 * whole m e) (rest m e * 256))
-      ∙ ap (λ (z : ℕ). z / down e) (rw (mul-assoc 256 (whole m e) (down e), mul-comm (rest m e) 256, ← mul-add, div-add-mod' (m * up e) (down e)))
-
-  place-is : place (fin false m e) ≡ 256 * whole m e + rest m e * 256 / down e
-  place-is =
-      let parted = ap (λ (z : ℕ). z / down e) (mul-comm (m * up e) 256) ∙ sym together in
-      let low = rest-below in
-      let high = whole-below in
-      times (fin false m e) (m * up e) (size-small m e (parts m e t .digits) h) (refl, refl) (rw parted (omega arith)) ∙ parted
+  plus : Places (fin false m e)
+  plus =
+      record {
+        integral-below = rw integral-is whole-below;
+        step-below = rw step-is rest-below;
+        remainder = rw (step-is, place-is) (omega (arith, rest-below));
+        floored = λ _. rw (step-is, integral-is, mul-comm 256 (m * up e)) (sym parted);
+      }
 
 -- ---- both places of any pitch below 256
 below : (m : ℕ) (e : ℤ) → le (decimal 256 0) (fin false m e) ≡ false → m * up e < 256 * down e
@@ -160,16 +133,21 @@ below m e h =
     subst T h (le-of-values (decimal 256 0) (fin false m e) 256 1 (m * up e) (down e) (lit< tt) (down-pos e) c (refl, refl) (rw (mul-one (m * up e)) g)))
 
 pub places : (p : Float) → T (fits binary32 p) → le (decimal 256 0) p ≡ false → Places p
-unfolding le sub mul round toUnsigned isSignMinus
+unfolding le sub sum mul round toUnsigned ofInt isSignMinus fits
 places nan t h = zeros nan refl refl refl (λ z. absurd z)
-places (inf true) t h = minus (inf true) refl (λ z. absurd z)
+places (inf true) t h = zeros (inf true) refl refl refl (λ z. absurd z)
 places (inf false) t h = absurd (true≢false h)
-places (fin true m e) t h = minus (fin true m e) refl (λ z. sym (ap (λ (k : ℕ). 256 * k / down e) (minus-zero m e z) ∙ zero-div (down e)))
-places (fin false m e) t h =
-    let b = below m e h in
-    record {
-      integral-below = rw (integral-is m e b t) (whole-below m e b t);
-      step-below = rw (step-is m e b t) (rest-below m e b t);
-      remainder = rw (step-is m e b t, place-is m e b t) (omega (arith, rest-below m e b t));
-      floored = λ _. rw (step-is m e b t, integral-is m e b t) (together m e b t);
-    }
+places (fin true m e) t h =
+    let less = minus-times (fin true m e ⊖ decimal 0 0) (round-sign binary32 true (m * up e * 1 + 0 * 1 * down e) (down e * 1)) in
+    zeros (fin true m e) refl less (minus-times (fin true m e) refl) (minus-zero m e)
+places (fin false m (pos k)) t h = let b = below m (pos k) h in plus m (pos k) b (lt-of-lt-of-le b (lit≤ tt)) 149 (lit≤ tt) refl
+places (fin false zero (negsuc k)) t h = absurd (omega (arith, eqb→eq (1 * 2 ^ suc k) 1 t, pow-suc 2 k, pow-pos k))
+places (fin false (suc m) (negsuc k)) t h =
+    let a = eqb (suc m % 2) 1 in
+    let b = ltb (suc m) (2 ^ 24) in
+    let c = leb (2 ^ suc k) (2 ^ 149) in
+    let three = and-l (a && b && c) (ltb (suc m * 1) (2 ^ 128 * 2 ^ suc k)) t in
+    let deep = leb→le (2 ^ suc k) (2 ^ 149) (and-r (a && b) c three) in
+    let n : suc k ≤ 149 = omega (arith, lt-of-not-le (λ (g : 150 ≤ suc k). not-le-of-lt (pow-lt g) deep)) in
+    plus (suc m) (negsuc k) (below (suc m) (negsuc k) h) (rw mul-one (ltb→lt (suc m) (2 ^ 24) (and-r a b (and-l (a && b) c three)))) (149 - suc k) (omega arith)
+    (sym (pow-split (suc k) 149 n))

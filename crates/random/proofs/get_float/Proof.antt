@@ -5,9 +5,8 @@ use Rattle.random.specs.Random.{getFloat}
 use Rattle.random.proofs.get_float.Statement.{statement}
 use Rattle.random.proofs.get_float.Tie as tie
 
-returns : tie.Need-returns
-unfolding getFloat round ofBits
-returns c = rw (c .nearest-f32 .ensures, c .before .get-word .ensures)
-
 pub get-float-spec : {M : Type 1} → statement M
-get-float-spec = tie.close (tie.spec (λ c κs. search needs) (λ c κs. search needs) returns)
+unfolding getFloat round ofBits
+get-float-spec =
+    tie.close
+    (tie.spec (λ c κs. search needs) (λ c κs. search needs) (λ c. rw (c .nearest-f32 .ensures, c .before .get-word .ensures)))

@@ -4,9 +4,6 @@ use Rattle.random.specs.Random.{getWord}
 use Rattle.random.proofs.get_word.Statement.{statement}
 use Rattle.random.proofs.get_word.Tie as tie
 
-returns : tie.Need-returns
-unfolding getWord
-returns c = search needs
-
 pub get-word-spec : {M : Type 1} → statement M
-get-word-spec = tie.close (tie.spec (λ c κs. search needs) (λ c κs. search needs) returns)
+unfolding getWord
+get-word-spec = tie.close (tie.spec (λ c κs. search needs) (λ c κs. search needs) (λ c. search needs))

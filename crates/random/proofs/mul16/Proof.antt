@@ -5,8 +5,5 @@ use native.Mathlib.Omega.{arith}
 use Rattle.random.proofs.mul16.Statement.{statement}
 use Rattle.random.proofs.mul16.Tie as tie
 
-mul-result : tie.Need-mul-result
-mul-result c = record { fits = omega (arith, mul-le-mul (c .pre .0) (c .pre .1)) }
-
 pub mul16-spec : {M : Type 1} → statement M
-mul16-spec = tie.close (tie.spec mul-result (λ c. search needs))
+mul16-spec = tie.close (tie.spec (λ c. record { fits = omega (arith, mul-le-mul (c .pre .0) (c .pre .1)) }) (λ c. search needs))

@@ -5,9 +5,6 @@ use Rattle.utils.specs.Utils.{softLimit}
 use Rattle.utils.proofs.soft_limit.Statement.{statement}
 use Rattle.utils.proofs.soft_limit.Tie as tie
 
-returns : tie.Need-returns
-unfolding softLimit round ofBits
-returns c = refl
-
 pub soft-limit-spec : {M : Type 1} → statement M
-soft-limit-spec = tie.close (tie.spec returns)
+unfolding softLimit round ofBits
+soft-limit-spec = tie.close (tie.spec (λ c. refl))

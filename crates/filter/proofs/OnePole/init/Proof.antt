@@ -4,9 +4,6 @@ use lib.Ieee.{round, ofBits}
 use Rattle.filter.proofs.OnePole.init.Statement.{statement}
 use Rattle.filter.proofs.OnePole.init.Tie as tie
 
-returns : tie.Need-returns
-unfolding round ofBits
-returns c = rw (c .reset .ensures, c .before .set-f .ensures)
-
 pub init-spec : {M : Type 1} → statement M
-init-spec = tie.close (tie.spec (λ c κs. search needs) (λ c κs. search needs) returns)
+unfolding round ofBits
+init-spec = tie.close (tie.spec (λ c κs. search needs) (λ c κs. search needs) (λ c. rw (c .reset .ensures, c .before .set-f .ensures)))

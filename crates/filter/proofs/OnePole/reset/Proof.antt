@@ -5,9 +5,6 @@ use Rattle.filter.specs.OnePole.{reset}
 use Rattle.filter.proofs.OnePole.reset.Statement.{statement}
 use Rattle.filter.proofs.OnePole.reset.Tie as tie
 
-returns : tie.Need-returns
-unfolding reset round ofBits
-returns c = refl
-
 pub reset-spec : {M : Type 1} → statement M
-reset-spec = tie.close (tie.spec returns)
+unfolding reset round ofBits
+reset-spec = tie.close (tie.spec (λ c. refl))

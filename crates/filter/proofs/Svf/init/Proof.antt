@@ -5,9 +5,6 @@ use Rattle.filter.specs.Svf.{init}
 use Rattle.filter.proofs.Svf.init.Statement.{statement}
 use Rattle.filter.proofs.Svf.init.Tie as tie
 
-returns : tie.Need-returns
-unfolding init round ofBits
-returns c = rw (c .reset .ensures, c .before .set-f-q .ensures)
-
 pub init-spec : {M : Type 1} → statement M
-init-spec = tie.close (tie.spec (λ c κs. search needs) (λ c κs. search needs) returns)
+unfolding init round ofBits
+init-spec = tie.close (tie.spec (λ c κs. search needs) (λ c κs. search needs) (λ c. rw (c .reset .ensures, c .before .set-f-q .ensures)))

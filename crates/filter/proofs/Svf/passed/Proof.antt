@@ -4,9 +4,6 @@ use Rattle.filter.specs.Svf.{passed}
 use Rattle.filter.proofs.Svf.passed.Statement.{statement}
 use Rattle.filter.proofs.Svf.passed.Tie as tie
 
-returns : tie.Need-returns
-unfolding passed
-returns c = refl
-
 pub passed-spec : {M : Type 1} → statement M
-passed-spec = tie.close (tie.spec returns)
+unfolding passed
+passed-spec = tie.close (tie.spec (λ c. refl))

@@ -4,9 +4,8 @@ use Rattle.filter.specs.Svf.{process}
 use Rattle.filter.proofs.Svf.process.Statement.{statement}
 use Rattle.filter.proofs.Svf.process.Tie as tie
 
-returns : tie.Need-returns
-unfolding process
-returns c = rw (c .output .ensures, c .before .before .passed .ensures)
-
 pub process-spec : {M : Type 1} → statement M
-process-spec = tie.close (tie.spec (λ c κs. search needs) (λ c κs. search needs) returns)
+unfolding process
+process-spec =
+    tie.close
+    (tie.spec (λ c κs. search needs) (λ c κs. search needs) (λ c. rw (c .output .ensures, c .before .before .passed .ensures)))

@@ -4,11 +4,9 @@ use Rattle.filter.specs.Svf.{processDual}
 use Rattle.filter.proofs.Svf.process_dual.Statement.{statement}
 use Rattle.filter.proofs.Svf.process_dual.Tie as tie
 
-returns : tie.Need-returns
-unfolding processDual
-returns c =
-    let at-passed = c .before .before .before in
-    rw (c .output2 .ensures, c .before .output .ensures, at-passed .passed .ensures)
-
 pub process-dual-spec : {M : Type 1} → statement M
-process-dual-spec = tie.close (tie.spec (λ c κs. search needs) (λ c κs. search needs) (λ c κs. search needs) returns)
+unfolding processDual
+process-dual-spec =
+    tie.close
+    (tie.spec (λ c κs. search needs) (λ c κs. search needs) (λ c κs. search needs)
+    (λ c. let at-passed = c .before .before .before in rw (c .output2 .ensures, c .before .output .ensures, at-passed .passed .ensures)))

@@ -5,9 +5,6 @@ use Rattle.filter.specs.Svf.{setGQ}
 use Rattle.filter.proofs.Svf.set_g_q.Statement.{statement}
 use Rattle.filter.proofs.Svf.set_g_q.Tie as tie
 
-returns : tie.Need-returns
-unfolding setGQ round ofBits
-returns c = rw (c .set-g-r .ensures)
-
 pub set-g-q-spec : {M : Type 1} → statement M
-set-g-q-spec = tie.close (tie.spec (λ c κs. search needs) returns)
+unfolding setGQ round ofBits
+set-g-q-spec = tie.close (tie.spec (λ c κs. search needs) (λ c. rw (c .set-g-r .ensures)))

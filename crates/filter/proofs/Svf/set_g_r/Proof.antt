@@ -5,9 +5,6 @@ use Rattle.filter.specs.Svf.{setGR}
 use Rattle.filter.proofs.Svf.set_g_r.Statement.{statement}
 use Rattle.filter.proofs.Svf.set_g_r.Tie as tie
 
-returns : tie.Need-returns
-unfolding setGR round ofBits
-returns c = rw (c .set-g-r-h .ensures)
-
 pub set-g-r-spec : {M : Type 1} → statement M
-set-g-r-spec = tie.close (tie.spec (λ c κs. search needs) returns)
+unfolding setGR round ofBits
+set-g-r-spec = tie.close (tie.spec (λ c κs. search needs) (λ c. rw (c .set-g-r-h .ensures)))

@@ -1,2 +1,0 @@
--- The laws of `trigger_pulse` beside the proofs of its functions.
-pub mod Countdown

@@ -3,5 +3,5 @@ use Rattle.cue_sheet.specs.Sheet.{SheetAnswer, accepted, refusedAt}
 use Rattle.console.specs.declared.sheet.SheetAnswered.{SheetAnswered}
 
 abbrev pub sheet : SheetAnswer → SheetAnswered
-sheet (accepted rate length cues) = record { number = 0; line = 0; rate = rate; length = length; cues = cues }
+sheet (accepted head cues) = record { number = 0; line = 0; rate = head .rate; length = head .length; cues = cues }
 sheet (refusedAt number line) = record { number = number; line = line; rate = 0; length = 0; cues = 0 }

@@ -21,11 +21,11 @@ pub extern "C" fn bechullpi_sheet(sheet: &[u8], out: &mut [f32]) -> SheetAnswere
     ensures block { λ _. ⌜ now (out .exit) ≡ render (now (sheet .entry)) (now (out .entry)) ⌝ }
 {
     match cue_render::render(sheet, out) {
-        Judgment::Accepted { rate, length, cues } => SheetAnswered {
+        Judgment::Accepted { head, cues } => SheetAnswered {
             number: 0,
             line: 0,
-            rate,
-            length,
+            rate: head.rate,
+            length: head.length,
             cues,
         },
         Judgment::Refused { refusal, line } => SheetAnswered {

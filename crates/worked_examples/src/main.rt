@@ -6,11 +6,15 @@ use hihat::VcaType;
 use libc::STDOUT_FILENO;
 use refusal::Answer;
 
-fn print(example: &[u8], answer: Answer) {
+fn print_number(example: &[u8], number: u32) {
     io::write_all(STDOUT_FILENO, example);
     io::write_all(STDOUT_FILENO, b": ");
-    io::print_decimal(STDOUT_FILENO, answer.number() as u64);
+    io::print_decimal(STDOUT_FILENO, number as u64);
     io::write_all(STDOUT_FILENO, b"\n");
+}
+
+fn print(example: &[u8], answer: Answer) {
+    print_number(example, answer.number());
 }
 
 // A bass struck at f0, over a block.
@@ -52,16 +56,10 @@ fn struck_unstarted(f0: f32, out: &mut [f32]) -> Answer {
 // A sheet of two samples into a lent buffer. Where it is refused, its line too.
 fn print_rendered(example: &[u8], out: &mut [f32]) {
     match cue_render::render(b"48000,2\n", out) {
-        Judgment::Accepted {
-            rate: _,
-            length: _,
-            cues: _,
-        } => print(example, Answer::Accepted),
+        Judgment::Accepted { head: _, cues: _ } => print_number(example, 0),
         Judgment::Refused { refusal, line } => {
-            print(example, Answer::Refused(refusal));
-            io::write_all(STDOUT_FILENO, b"its line: ");
-            io::print_decimal(STDOUT_FILENO, line as u64);
-            io::write_all(STDOUT_FILENO, b"\n");
+            print_number(example, refusal.number());
+            print_number(b"its line", line);
         }
     }
 }

@@ -8,15 +8,14 @@ use Rattle.console.proofs.sheet.bechullpi_sheet.Tie as tie
 
 returns : tie.Need-returns
 returns c =
-    let told = c .before .rate .given .1 in
     let r = c .before .before .before .before .before .render .ensures in
-    (ap sheet (ap answer (sym told) ∙ r .0), r .1)
+    (ap sheet (ap answer (sym (c .before .head .given .1)) ∙ r .0), r .1 .0)
 
 returns-2 : tie.Need-returns-2
 returns-2 c =
     let told = c .before .before .refusal .given .1 in
     let r = c .before .before .before .before .before .before .render .ensures in
-    rw (c .number .ensures) (ap sheet (ap answer (sym told) ∙ r .0), r .1)
+    rw (c .number .ensures) (ap sheet (ap answer (sym told) ∙ r .0), r .1 .0)
 
 pub bechullpi-sheet-spec : {M : Type 1} → statement M
 bechullpi-sheet-spec =

@@ -9,10 +9,10 @@ use mathlib.Core.List.{List, [], _∷_, _++_}
 use lib.Dec.{ltb}
 use lib.ListN.{length, length-append}
 use borrow.Author.Tests.{lt-ltb, le-ltb}
-use Rattle.text.specs.Write.{digit, decimalWithin, decimal, pair, pattern}
+use Rattle.text.specs.Write.{digit, decimalWithin, decimal, pattern}
 
 pub pattern-length : (n : ℕ) → length (pattern n) ≡ 8
-unfolding pattern pair
+unfolding pattern
 pattern-length n = refl
 
 -- more divisions than needed give no more digits

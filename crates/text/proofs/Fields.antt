@@ -8,7 +8,7 @@ use mathlib.Core.Path.{_≡_, refl, sym, ap, _∙_}
 use mathlib.Core.Bool.{Bool, true, false, cond}
 use mathlib.Core.List.{List, [], _∷_}
 use lib.Dec.{leb, eqb, leb·zero, leb·suc-zero, leb·suc-suc}
-use lib.ListN.{length, getD, take, drop, length-drop, drop-of-length-le}
+use lib.ListN.{length, getD, take, drop, length-take, length-drop, drop-of-length-le}
 use lib.Seq.{drop-drop, getD-drop, take-nil, drop-nil}
 use borrow.Author.Tests.{le-leb, lt-leb}
 use Rattle.text.specs.Read.{indexOf, attach, fields, field, fieldEnd}
@@ -46,7 +46,7 @@ from-part (suc at) i (x ∷ line) = rw (suc-add, leb·suc-suc) (from-part at i l
 
 module _ (line : List ℕ) where
   from-field : (at : ℕ) → at ≤ length line → from at line ≡ between at (fieldEnd at line) line ∷ from (suc (fieldEnd at line)) line
-  unfolding from fieldEnd
+  unfolding from
   from-field at h =
       let i = indexOf 44 (drop at line) in
       let size : at + i - at ≡ i = omega arith in
@@ -57,11 +57,9 @@ module _ (line : List ℕ) where
   from-past at h = rw (lt-leb at (length line) h)
 
   end-inside : (at : ℕ) → at ≤ length line → fieldEnd at line ≤ length line
-  unfolding fieldEnd
   end-inside at h = omega (arith, indexOf-le 44 (drop at line), length-drop at line)
 
   end-after : (at : ℕ) → at ≤ fieldEnd at line
-  unfolding fieldEnd
   end-after at = omega arith
 
   from-start : (k : ℕ) → drop k (fields line) ≡ from (fieldStart k line) line
@@ -115,32 +113,27 @@ module _ (line : List ℕ) where
             omega (arith, count, ap length (from-field at l), ap length (from-field (suc (fieldEnd at line)) (omega arith)))
         go (no l) = omega (arith, count, ap length (from-past at (omega arith)))
 
--- ---- the bytes of the fields, and one for the comma or the end after each
-abbrev sizes : List (List ℕ) → ℕ
-sizes [] = 0
-sizes (f ∷ fs) = suc (length f) + sizes fs
-
-sizes-attach : (x : ℕ) (fs : List (List ℕ)) → suc (sizes fs) ≤ sizes (attach x fs)
-unfolding attach
-sizes-attach x [] = omega arith
-sizes-attach x (f ∷ fs) = omega arith
-
--- nothing is lost
-line-size : (line : List ℕ) → suc (length line) ≤ sizes (fields line)
-unfolding fields
-line-size [] = omega arith
-line-size (x ∷ xs) = go (eqb x 44) (line-size xs)
+-- two fields and the comma between them are the line
+pub two-fields-size : (line : List ℕ) → length (fields line) ≡ 2 → length line ≡ length (field 0 line) + 1 + length (field 1 line)
+unfolding fieldStart
+two-fields-size line two = go (decLe (length line) comma) (decLe (length line) end)
   where
-    go : (t : Bool) → suc (length xs) ≤ sizes (fields xs) → suc (suc (length xs)) ≤ sizes (cond t ([] ∷ fields xs) (attach x (fields xs)))
-    go true h = omega arith
-    go false h = omega (arith, sizes-attach x (fields xs))
+    comma : ℕ
+    comma = fieldEnd 0 line
 
-pub two-fields-size : (line : List ℕ) → length (fields line) ≡ 2 → length line ≤ length (field 0 line) + 1 + length (field 1 line)
-unfolding field
-two-fields-size line = go (fields line) (line-size line)
-  where
-    go : (fs : List (List ℕ)) → suc (length line) ≤ sizes fs → length fs ≡ 2 → length line ≤ length (getD fs 0 []) + 1 + length (getD fs 1 [])
-    go [] s h = absurd (omega arith)
-    go (f ∷ []) s h = absurd (omega arith)
-    go (f ∷ g ∷ []) s h = omega arith
-    go (f ∷ g ∷ k ∷ fs) s h = absurd (omega arith)
+    end : ℕ
+    end = fieldEnd (comma + 1) line
+
+    next : fieldStart 1 line ≡ comma + 1
+    next = next-starts line 0 refl refl
+
+    first : length (between 0 comma line) ≡ length (field 0 line)
+    first = ap length (field-here line 0 refl refl)
+
+    second : length (between (comma + 1) end line) ≡ length (field 1 line)
+    second = ap length (field-here line 1 next refl)
+
+    go : Dec (length line ≤ comma) → Dec (length line ≤ end) → length line ≡ length (field 0 line) + 1 + length (field 1 line)
+    go (yes c) e = absurd (omega (arith, field-last line 0 refl refl (omega (arith, end-inside line 0 (omega arith)))))
+    go (no c) (no e) = absurd (field-not-last line 1 next refl (λ h. omega arith) two)
+    go (no c) (yes e) = omega (arith, simp (length-take, length-drop) at first, simp (length-take, length-drop) at second, end-inside line (comma + 1) (omega arith))

@@ -49,7 +49,7 @@ unfoldable pub field : ℕ → List ℕ → List ℕ
 field k line = getD (fields line) k []
 
 -- the end of the field that starts at a place of a line: the place of the next comma, or the line's end
-unfoldable pub fieldEnd : ℕ → List ℕ → ℕ
+abbrev pub fieldEnd : ℕ → List ℕ → ℕ
 fieldEnd at line = at + indexOf (code ",") (drop at line)
 
 -- exactly n fields

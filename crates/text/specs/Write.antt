@@ -6,7 +6,7 @@ use mathlib.Core.Path.{_≡_}
 use mathlib.Core.Bool.{Bool, true, false, cond}
 use mathlib.Core.List.{List, [], _∷_, _++_}
 use lib.Dec.{ltb}
-use lib.ListN.{length, drop}
+use lib.ListN.{length, drop, getD}
 use lib.Seq.{sets}
 
 -- the bytes of an ASCII text
@@ -16,9 +16,9 @@ ascii (c ∷ˢ s) = code c ∷ ascii s
 
 -- ---- numbers
 
--- a digit below 16: `0` to `9`, then `a` to `f`
-unfoldable pub digit : ℕ → ℕ
-digit d = cond (ltb d 10) (code "0" + d) (code "a" + (d - 10))
+-- the last hexadecimal digit of n
+abbrev pub digit : ℕ → ℕ
+digit n = getD (ascii "0123456789abcdef") (n % 16) 0
 
 -- n in decimal, by at most `steps` divisions; `one` says whether n has one digit.
 -- (It is an argument to match on: a recursive call under a `cond` is worked out whether or not it is taken.)
@@ -31,13 +31,11 @@ decimalWithin (suc steps) false n = decimalWithin steps (ltb (n / 10) 10) (n / 1
 unfoldable pub decimal : ℕ → List ℕ
 decimal n = decimalWithin n (ltb n 10) n
 
--- the last two hexadecimal digits of n
-unfoldable pub pair : ℕ → List ℕ
-pair n = digit (n / 16 % 16) ∷ digit (n % 16) ∷ []
-
 -- a pattern of 32 bits: eight hexadecimal digits
 unfoldable pub pattern : ℕ → List ℕ
-pattern n = pair (n / 2 ^ 24) ++ pair (n / 2 ^ 16) ++ pair (n / 2 ^ 8) ++ pair n
+pattern n =
+    digit (n / 2 ^ 28) ∷ digit (n / 2 ^ 24) ∷ digit (n / 2 ^ 20) ∷ digit (n / 2 ^ 16)
+    ∷ digit (n / 2 ^ 12) ∷ digit (n / 2 ^ 8) ∷ digit (n / 2 ^ 4) ∷ digit n ∷ []
 
 -- ---- a refused input
 

@@ -34,6 +34,7 @@ pub fn body(text: &[u8]) -> &[u8]
 // The place of the first byte b from `at` on, or the end where there is none.
 fn find(s: &[u8], at: usize, b: u8) -> usize
     ensures { λ r. ⌜ r ≡ at + Read.indexOf b (drop at (now (s .entry))) ⌝ }
+    ensures { λ r. ⌜ r ≤ max at (length (now (s .entry))) ⌝ }
 {
     let mut i = at;
     while i < s.len() {

@@ -28,15 +28,12 @@ pub fn bytes(out: &mut [u8], at: usize, text: &[u8]) -> usize
     end
 }
 
-fn digit(d: u64) -> u8
-    requires { ⌜ d < 16 ⌝ }
-    ensures { λ r. ⌜ r ≡ Write.digit d ⌝ }
+// The last hexadecimal digit of n, in lower case.
+fn digit(n: u64) -> u8
+    ensures { λ r. ⌜ r ≡ Write.digit n ⌝ }
 {
-    if d < 10 {
-        b'0' + d as u8
-    } else {
-        b'a' + (d - 10) as u8
-    }
+    let digits = b"0123456789abcdef";
+    digits[(n % 16) as usize]
 }
 
 // n in decimal, with no zeros in front.
@@ -50,23 +47,22 @@ pub fn decimal(out: &mut [u8], at: usize, n: u64) -> usize
     byte(out, end, digit(n % 10))
 }
 
-// The last two hexadecimal digits of n, in lower case.
-fn pair(out: &mut [u8], at: usize, n: u64) -> usize
-    ensures { λ r. ⌜ Written (now (out .entry)) at (Write.pair n) r (now (out .exit)) ⌝ }
-{
-    let end = byte(out, at, digit(n / 16 % 16));
-    byte(out, end, digit(n % 16))
-}
-
 // A bit pattern, as eight hexadecimal digits.
 pub fn pattern(out: &mut [u8], at: usize, bits: u32) -> usize
     ensures { λ r. ⌜ Written (now (out .entry)) at (Write.pattern bits) r (now (out .exit)) ⌝ }
 {
     let n = bits as u64;
-    let second = pair(out, at, n >> 24);
-    let third = pair(out, second, n >> 16);
-    let fourth = pair(out, third, n >> 8);
-    pair(out, fourth, n)
+    let text = [
+        digit(n >> 28),
+        digit(n >> 24),
+        digit(n >> 20),
+        digit(n >> 16),
+        digit(n >> 12),
+        digit(n >> 8),
+        digit(n >> 4),
+        digit(n),
+    ];
+    bytes(out, at, &text)
 }
 
 // A number and the byte after it.

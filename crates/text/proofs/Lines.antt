@@ -3,7 +3,7 @@ use Prim.Native.Nat.{ℕ, suc, _+_, _-_, _≤_, _<_, min}
 use native.Mathlib.Nat.{not-suc-le-zero}
 use native.Mathlib.Omega.{arith}
 use native.Mathlib.Decide.{decLe}
-use mathlib.Core.Path.{_≡_, refl, ap, _∙_}
+use mathlib.Core.Path.{_≡_, refl, sym, ap, _∙_}
 use mathlib.Core.Bool.{Bool, true, false, cond}
 use mathlib.Core.List.{List, [], _∷_}
 use lib.Dec.{eqb}
@@ -12,24 +12,21 @@ use lib.Seq.{drop-drop, take-all}
 use Rattle.text.specs.Read.{attach, lines, lineAt, indexOf}
 use Rattle.text.proofs.Find.{indexOf-le}
 
+-- the first k bytes of a text as its first line
+abbrev cut : ℕ → List ℕ → List (List ℕ)
+cut k l = take k l ∷ lines (drop k l)
+
 -- the first line end closes the first line; where there is none, that is all of the text
-opened : (l : List ℕ) → 0 < length l → lines l ≡ take (suc (indexOf 10 l)) l ∷ lines (drop (suc (indexOf 10 l)) l)
+opened : (l : List ℕ) → 0 < length l → lines l ≡ cut (suc (indexOf 10 l)) l
 unfolding lines attach indexOf
 opened [] h = absurd (not-suc-le-zero h)
-opened (x ∷ []) h = go (eqb x 10)
+opened (x ∷ xs) h = go (eqb x 10) xs (opened xs)
   where
-    go : (t : Bool) → cond t ((x ∷ []) ∷ []) ((x ∷ []) ∷ []) ≡ take (suc (cond t 0 1)) (x ∷ []) ∷ lines (drop (suc (cond t 0 1)) (x ∷ []))
-    go true = refl
-    go false = refl
-opened (x ∷ y ∷ ys) h = go (eqb x 10) (opened (y ∷ ys) (omega arith))
-  where
-    l : List ℕ
-    l = y ∷ ys
-
-    go : (t : Bool) → lines l ≡ take (suc (indexOf 10 l)) l ∷ lines (drop (suc (indexOf 10 l)) l)
-        → cond t ((x ∷ []) ∷ lines l) (attach x (lines l)) ≡ take (suc (cond t 0 (suc (indexOf 10 l)))) (x ∷ l) ∷ lines (drop (suc (cond t 0 (suc (indexOf 10 l)))) (x ∷ l))
-    go true e = refl
-    go false e = ap (attach x) e
+    go : (t : Bool) (xs : List ℕ) → (0 < length xs → lines xs ≡ cut (suc (indexOf 10 xs)) xs)
+        → cond t ((x ∷ []) ∷ lines xs) (attach x (lines xs)) ≡ cut (suc (cond t 0 (suc (indexOf 10 xs)))) (x ∷ xs)
+    go true xs e = refl
+    go false [] e = refl
+    go false (y ∷ ys) e = ap (attach x) (e (omega arith))
 
 pub lines-over : (s : List ℕ) (at : ℕ) → length s ≤ at → lines (drop at s) ≡ []
 unfolding lines
@@ -62,24 +59,17 @@ module _ (s : List ℕ) (at next : ℕ) (ends : next ≡ at + length (lineAt at 
   line-less = omega (arith, line-length at s)
 
   pub line-next : lines (drop at s) ≡ take (next - at) (drop at s) ∷ lines (drop next s)
-  line-next = opened (drop at s) (omega (arith, length-drop at s)) ∙ go (decLe (suc i) (length s - at))
+  line-next = opened l (omega (arith, length-drop at s)) ∙ go (decLe (suc (indexOf 10 l)) (length l)) ∙ rw (drop-drop (next - at) at s, sum)
     where
-      i : ℕ
-      i = indexOf 10 (drop at s)
+      l : List ℕ
+      l = drop at s
 
-      sum : drop (next - at) (drop at s) ≡ drop next s
-      sum = let e : at + (next - at) ≡ next = omega arith in drop-drop (next - at) at s ∙ ap (λ (k : ℕ). drop k s) e
+      sum : at + (next - at) ≡ next
+      sum = omega arith
 
-      go : Dec (suc i ≤ length s - at) → take (suc i) (drop at s) ∷ lines (drop (suc i) (drop at s)) ≡ take (next - at) (drop at s) ∷ lines (drop next s)
-      go (yes h) = let e : next - at ≡ suc i = omega (arith, line-length at s) in rw (← sum, e)
-      go (no h) =
-          let e : next - at ≡ length s - at = omega (arith, line-length at s) in
-          let long : length (drop at s) ≤ suc i = omega (arith, length-drop at s) in
-          rw (
-            ← sum,
-            e,
-            take-all (suc i) (drop at s) long,
-            take-all (length s - at) (drop at s) (omega (arith, length-drop at s)),
-            drop-of-length-le (drop at s) {i = suc i} long,
-            drop-of-length-le (drop at s) {i = length s - at} (omega (arith, length-drop at s)),
-          )
+      all : (k : ℕ) → length l ≤ k → cut k l ≡ l ∷ lines []
+      all k h = rw (take-all k l h, drop-of-length-le l {i = k} h)
+
+      go : Dec (suc (indexOf 10 l) ≤ length l) → cut (suc (indexOf 10 l)) l ≡ cut (next - at) l
+      go (yes h) = let e : next - at ≡ suc (indexOf 10 l) = omega (arith, line-length at s, length-drop at s) in rw e
+      go (no h) = all (suc (indexOf 10 l)) (omega arith) ∙ sym (all (next - at) (omega (arith, line-length at s, length-drop at s)))

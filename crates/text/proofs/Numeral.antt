@@ -1,6 +1,5 @@
 -- Reading a number digit by digit, up to a limit; how large it is, and how many digits it can have.
-use Prim.Native.Nat.{ℕ, suc, _+_, _-_, _*_, _^_, _≤_, _<_}
-use Prim.Native.Char.{code}
+use Prim.Native.Nat.{ℕ, suc, _+_, _*_, _^_, _≤_, _<_}
 use native.Mathlib.Nat.{le-mul-of-pos-right, mul-le-mul, mul-le-mul-right, mul-one, mul-assoc, suc-mul, pow-zero, pow-succ', pow-le-pow-right}
 use native.Mathlib.Numerals.{add-one}
 use native.Mathlib.Omega.{arith}
@@ -11,13 +10,13 @@ use mathlib.Core.List.{List, [], _∷_}
 use lib.Dec.{ltb, leb, eqb}
 use lib.ListN.{length, getD, drop, drop-of-length-le}
 use lib.Seq.{drop-cons}
-use borrow.Author.Tests.{lt-ltb, le-ltb, le-leb, lt-leb, ne-eqb, ltb-true, ltb-false, leb-true, eqb-false, not-true}
+use borrow.Author.Tests.{lt-ltb, le-ltb, le-leb, lt-leb, ne-eqb, ltb-true, leb-true, eqb-false, not-true}
 use Rattle.text.specs.Read.{digit, numeral, upTo, wellFormed, decimal}
 use Rattle.text.specs.declared.read.Number.{Number}
 use Rattle.text.specs.declared.read.Number.the-variants.{Value, Invalid}
 
 -- a decimal's form by its length, as the code asks for it
-pub form : (text : List ℕ) → wellFormed text ≡ cond (eqb (length text) 0) false (cond (eqb (length text) 1) true (not (eqb (getD text 0 0) (code "0"))))
+pub form : (text : List ℕ) → wellFormed text ≡ cond (eqb (length text) 0) false (cond (eqb (length text) 1) true (not (eqb (digit (getD text 0 0)) 0)))
 unfolding wellFormed
 form [] = refl
 form (d ∷ []) = refl
@@ -97,18 +96,6 @@ eight-digits text eight read = read ∙ go (numeral 16 0 text) refl
     go (Value n) e = rw (le-leb n 4294967295 (omega (arith, rw eight at (bounds 16 0 n text e .1))))
     go Invalid e = refl
 
--- only `0` (48) stands for 0
-not-zero : (d : ℕ) → not (eqb d 48) ≡ true → 0 < digit d
-unfolding digit
-not-zero d h = go (ltb d 48) (leb d 57) (ltb d 97) (leb d 102) refl
-  where
-    go : (p q r s : Bool) → ltb d 48 ≡ p → 0 < cond p 16 (cond q (d - 48) (cond r 16 (cond s (d - 97 + 10) 16)))
-    go true q r s e = omega arith
-    go false true r s e = omega (arith, ltb-false d 48 e, eqb-false d 48 (not-true (eqb d 48) h))
-    go false false true s e = omega arith
-    go false false false true e = omega arith
-    go false false false false e = omega arith
-
 -- a decimal that is read: its form, its digits and its limit
 pub record DecimalRead (limit n : ℕ) (text : List ℕ) : Type 0 where
   pub form : wellFormed text ≡ true
@@ -144,7 +131,7 @@ decimal-size k limit n text h e = go text (decimal-read limit n text e)
         least : power ≤ n
         least =
             let low = bounds 10 (0 * 10 + digit d) n (c ∷ ds) (one-read 10 0 n d (c ∷ ds) (r .digits) .1) .0 in
-            let leads : 1 * power ≤ (0 * 10 + digit d) * power = mul-le-mul-right power (omega (arith, not-zero d (r .form))) in
+            let leads : 1 * power ≤ (0 * 10 + digit d) * power = mul-le-mul-right power (omega (arith, eqb-false (digit d) 0 (not-true (eqb (digit d) 0) (r .form)))) in
             omega arith
 
         few : Dec (suc k ≤ length (c ∷ ds)) → length (d ∷ c ∷ ds) ≤ suc k

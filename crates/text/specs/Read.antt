@@ -80,7 +80,7 @@ upTo limit Invalid = Invalid
 unfoldable pub wellFormed : List ℕ → Bool
 wellFormed [] = false
 wellFormed (d ∷ []) = true
-wellFormed (d ∷ e ∷ ds) = not (eqb d (code "0"))
+wellFormed (d ∷ e ∷ ds) = not (eqb (digit d) 0)
 
 -- a decimal number from 0 to `limit`
 unfoldable pub decimal : ℕ → List ℕ → Number

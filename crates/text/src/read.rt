@@ -102,28 +102,20 @@ fn numeral(text: &[u8], base: u64, limit: u32) -> Number
     Number::Value(n as u32)
 }
 
-// Some digits, and no zero in front of others.
-fn well_formed(text: &[u8]) -> bool
-    ensures { λ r. ⌜ r ≡ Read.wellFormed (now (text .entry)) ⌝ }
-{
-    if text.len() == 0 {
-        return false;
-    }
-    if text.len() == 1 {
-        return true;
-    }
-    text[0] != b'0'
-}
-
 // A decimal number from 0 to `limit`, with no zeros in front.
 pub fn decimal(text: &[u8], limit: u32) -> Number
     ensures { λ r. ⌜ r ≡ Read.decimal limit (now (text .entry)) ⌝ }
 {
-    if well_formed(text) {
-        numeral(text, 10, limit)
-    } else {
-        Number::Invalid
+    if text.len() == 0 {
+        return Number::Invalid;
     }
+    if text.len() == 1 {
+        return numeral(text, 10, limit);
+    }
+    if digit(text[0]) == 0 {
+        return Number::Invalid;
+    }
+    numeral(text, 10, limit)
 }
 
 // A bit pattern: eight hexadecimal digits in lower case.

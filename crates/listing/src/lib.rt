@@ -52,24 +52,18 @@ fn put_rows(out: &mut [u8], at: usize, state: u32, count: u32) -> usize
     end
 }
 
-fn put_answer(out: &mut [u8], request: Request) -> usize
-    ensures { λ r. ⌜ Written (now (out .entry)) 0 (Draws.answer request) r (now (out .exit)) ⌝ }
+// What the program `draws` prints for its input, at the start of `out`. The header has 15 bytes and each of at most 1000 rows
+// at most 25: 4 + 1 + 10 + 1 + 8 + 1.
+pub fn draws(input: &[u8], out: &mut [u8; 25015]) -> usize
+    ensures { λ r. ⌜ Whole (now (out .entry)) (Draws.text (now (input .entry))) r (now (out .exit)) ⌝ }
 {
-    match request {
+    match draw_request::read_request(input) {
         Request::Draws { state, count } => {
             let end = text::write::bytes(out, 0, b"draw,word,bits\n");
             put_rows(out, end, state, count)
         }
         Request::Refused => put_refused(out, Refusal::CueLine, 1),
     }
-}
-
-// What the program `draws` prints for its input, at the start of `out`. The header has 15 bytes and each of at most 1000 rows
-// at most 25: 4 + 1 + 10 + 1 + 8 + 1.
-pub fn draws(input: &[u8], out: &mut [u8; 25015]) -> usize
-    ensures { λ r. ⌜ Whole (now (out .entry)) (Draws.text (now (input .entry))) r (now (out .exit)) ⌝ }
-{
-    put_answer(out, draw_request::read_request(input))
 }
 
 fn put_sample(out: &mut [u8], at: usize, index: u64, x: f32) -> usize

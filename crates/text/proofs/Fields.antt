@@ -1,6 +1,6 @@
 -- The fields of a line, cut at each comma (44): a cursor that goes from one to the next, and how long they are.
 use Prim.Native.Nat.{ℕ, zero, suc, _+_, _-_, _≤_, _<_}
-use native.Mathlib.Nat.{zero-add, suc-add}
+use native.Mathlib.Nat.{zero-add, add-zero, suc-add}
 use native.Mathlib.Numerals.{add-one}
 use native.Mathlib.Omega.{arith}
 use native.Mathlib.Decide.{decLe}
@@ -8,8 +8,8 @@ use mathlib.Core.Path.{_≡_, refl, sym, ap, _∙_}
 use mathlib.Core.Bool.{Bool, true, false, cond}
 use mathlib.Core.List.{List, [], _∷_}
 use lib.Dec.{leb, eqb, leb·zero, leb·suc-zero, leb·suc-suc}
-use lib.ListN.{length, getD, take, drop, length-take, length-drop, drop-of-length-le}
-use lib.Seq.{drop-drop, getD-drop, take-nil, drop-nil}
+use lib.ListN.{length, getD, take, drop, length-take, length-drop}
+use lib.Seq.{drop-drop, getD-drop, take-nil}
 use borrow.Author.Tests.{le-leb, lt-leb}
 use Rattle.text.specs.Read.{indexOf, attach, fields, field, fieldEnd}
 use Rattle.text.proofs.Find.{indexOf-le}
@@ -38,42 +38,35 @@ opened (x ∷ xs) = go (eqb x 44) (opened xs)
     go true e = rw (leb·suc-suc, leb·zero)
     go false e = rw leb·suc-suc (ap (attach x) e)
 
-from-part : (at i : ℕ) (line : List ℕ) → from (suc i) (drop at line) ≡ from (suc (at + i)) line
+-- the field at a place, and those after it
+from-first : (at : ℕ) (line : List ℕ) → getD (from at line) 0 [] ≡ take (indexOf 44 (drop at line)) (drop at line)
 unfolding from
-from-part zero i line = rw zero-add
-from-part (suc at) i [] = rw (leb·suc-zero i, leb·suc-zero (suc at + i))
-from-part (suc at) i (x ∷ line) = rw (suc-add, leb·suc-suc) (from-part at i line)
+from-first zero line = rw (leb·zero, opened line)
+from-first (suc at) [] = rw (leb·suc-zero, take-nil)
+from-first (suc at) (x ∷ line) = rw leb·suc-suc (from-first at line)
+
+from-rest : (at : ℕ) (line : List ℕ) → drop 1 (from at line) ≡ from (suc (fieldEnd at line)) line
+unfolding from
+from-rest zero line = rw (leb·zero, zero-add, opened line)
+from-rest (suc at) [] = rw (leb·suc-zero at, leb·suc-zero (fieldEnd (suc at) []))
+from-rest (suc at) (x ∷ line) = rw (suc-add, leb·suc-suc at, leb·suc-suc (suc (fieldEnd at line))) (from-rest at line)
 
 module _ (line : List ℕ) where
-  from-field : (at : ℕ) → at ≤ length line → from at line ≡ between at (fieldEnd at line) line ∷ from (suc (fieldEnd at line)) line
+  from-some : (at : ℕ) → at ≤ length line → 0 < length (from at line)
   unfolding from
-  from-field at h =
-      let i = indexOf 44 (drop at line) in
-      let size : at + i - at ≡ i = omega arith in
-      rw (le-leb at (length line) h, size, ← from-part at i line) (opened (drop at line))
+  from-some at h = rw (le-leb at (length line) h, opened (drop at line)) (omega arith)
 
-  from-past : (at : ℕ) → length line < at → from at line ≡ []
+  from-none : (at : ℕ) → length line < at → length (from at line) ≡ 0
   unfolding from
-  from-past at h = rw (lt-leb at (length line) h)
+  from-none at h = rw (lt-leb at (length line) h)
 
   end-inside : (at : ℕ) → at ≤ length line → fieldEnd at line ≤ length line
   end-inside at h = omega (arith, indexOf-le 44 (drop at line), length-drop at line)
 
-  end-after : (at : ℕ) → at ≤ fieldEnd at line
-  end-after at = omega arith
-
   from-start : (k : ℕ) → drop k (fields line) ≡ from (fieldStart k line) line
   unfolding fieldStart from
   from-start zero = rw leb·zero
-  from-start (suc k) = go (decLe at (length line)) (from-start k)
-    where
-      at : ℕ
-      at = fieldStart k line
-
-      go : Dec (at ≤ length line) → drop k (fields line) ≡ from at line → drop (suc k) (fields line) ≡ from (suc (fieldEnd at line)) line
-      go (yes h) e = rw (← add-one k, ← drop-drop 1 k (fields line), e, from-field at h)
-      go (no h) e =
-          rw (← add-one k, ← drop-drop 1 k (fields line), e, from-past at (omega arith), from-past (suc (fieldEnd at line)) (omega (arith, end-after at)))
+  from-start (suc k) = rw (← add-one k, ← drop-drop 1 k (fields line), from-start k) (from-rest (fieldStart k line) line)
 
   -- the cursor in the terms of the code: at is where field k starts, and e is its end
   module _ (k : ℕ) {at e : ℕ} (starts : fieldStart k line ≡ at) (ends : e ≡ fieldEnd at line) where
@@ -84,34 +77,26 @@ module _ (line : List ℕ) where
     left : drop k (fields line) ≡ from at line
     left = rw starts at (from-start k)
 
-    count : length (fields line) - k ≡ length (from at line)
-    count = sym (length-drop k (fields line)) ∙ ap length left
+    count : (length (fields line) - k ≡ length (from at line)) × (length (from at line) - 1 ≡ length (from (suc e) line))
+    count = (sym (length-drop k (fields line)) ∙ ap length left, sym (length-drop 1 (from at line)) ∙ rw ends (ap length (from-rest at line)))
 
     pub field-here : between at e line ≡ field k line
     unfolding field
-    field-here = rw ends (go (decLe at (length line)) ∙ rw (← left) (getD-drop k (fields line) 0 [] ∙ ap (λ (n : ℕ). getD (fields line) n []) sum))
-      where
-        sum : k + 0 ≡ k
-        sum = omega arith
-
-        go : Dec (at ≤ length line) → between at (fieldEnd at line) line ≡ getD (from at line) 0 []
-        go (yes h) = rw (from-field at h)
-        go (no h) = rw (from-past at (omega arith), drop-of-length-le line {i = at} (omega arith), take-nil)
+    field-here =
+        let size : e - at ≡ indexOf 44 (drop at line) = omega arith in
+        rw size (sym (from-first at line) ∙ rw (← left) (getD-drop k (fields line) 0 [] ∙ rw add-zero))
 
     -- a field is the last exactly where its end is the line's
     pub field-last : e ≡ length line → length (fields line) ≡ suc k
-    field-last h =
-        let some = ap length (from-field at (omega (arith, end-after at))) in
-        omega (arith, count, some, ap length (from-past (suc (fieldEnd at line)) (omega arith)))
+    field-last h = omega (arith, count, from-some at (omega arith), from-none (suc e) (omega arith))
 
     pub field-not-last : (e ≡ length line → ⊥) → length (fields line) ≡ suc k → ⊥
-    field-not-last h one = go (decLe at (length line))
+    field-not-last h one = go (decLe at (length line)) (decLe (suc e) (length line))
       where
-        go : Dec (at ≤ length line) → ⊥
-        go (yes l) =
-            let inside = end-inside at l in
-            omega (arith, count, ap length (from-field at l), ap length (from-field (suc (fieldEnd at line)) (omega arith)))
-        go (no l) = omega (arith, count, ap length (from-past at (omega arith)))
+        go : Dec (at ≤ length line) → Dec (suc e ≤ length line) → ⊥
+        go (yes l) (yes m) = omega (arith, count, from-some (suc e) m)
+        go (yes l) (no m) = h (omega (arith, end-inside at l))
+        go (no l) m = omega (arith, count, from-none at (omega arith))
 
 -- two fields and the comma between them are the line
 pub two-fields-size : (line : List ℕ) → length (fields line) ≡ 2 → length line ≡ length (field 0 line) + 1 + length (field 1 line)

@@ -125,15 +125,11 @@ decimal-size k limit n text h e = go text (decimal-read limit n text e)
     go (d ∷ []) r = omega arith
     go (d ∷ c ∷ ds) r = few (decLe (suc k) (length (c ∷ ds)))
       where
-        power : ℕ
-        power = 10 ^ length (c ∷ ds)
-
-        least : power ≤ n
-        least =
-            let low = bounds 10 (0 * 10 + digit d) n (c ∷ ds) (one-read 10 0 n d (c ∷ ds) (r .digits) .1) .0 in
-            let leads : 1 * power ≤ (0 * 10 + digit d) * power = mul-le-mul-right power (omega (arith, eqb-false (digit d) 0 (not-true (eqb (digit d) 0) (r .form)))) in
-            omega arith
-
         few : Dec (suc k ≤ length (c ∷ ds)) → length (d ∷ c ∷ ds) ≤ suc k
-        few (yes l) = absurd (omega (arith, least, r .most, pow-le-pow-right {n = 10} (omega arith) l))
         few (no l) = omega arith
+        few (yes l) =
+            let power = 10 ^ length (c ∷ ds) in
+            let low = bounds 10 (0 * 10 + digit d) n (c ∷ ds) (one-read 10 0 n d (c ∷ ds) (r .digits) .1) .0 in
+            let some = eqb-false (digit d) 0 (not-true (eqb (digit d) 0) (r .form)) in
+            let leads : 1 * power ≤ (0 * 10 + digit d) * power = mul-le-mul-right power (omega (arith, some)) in
+            absurd (omega (arith, r .most, pow-le-pow-right {n = 10} (omega arith) l))

@@ -47,10 +47,6 @@ pub then-both : {out out₁ out₂ a : List ℕ} (b c : List ℕ) {at at₁ at�
     → Written out at a at₁ out₁ → Written out₁ at₁ (b ++ c) at₂ out₂ → Written out at ((a ++ b) ++ c) at₂ out₂
 then-both {a = a} b c v w = rw (append-assoc a b c) (then v w)
 
--- what is written from the start of a buffer on ends in it
-pub end-within : {out text out′ : List ℕ} {end : ℕ} → Written out 0 text end out′ → end ≤ length out′
-end-within w = omega (arith, w .place, same-length w)
-
 -- a text that fits into a buffer from its start on stands there whole, and its end lies in the buffer
 pub whole : {out text out′ : List ℕ} {end : ℕ} → Written out 0 text end out′ → length text ≤ length out → Whole out text end out′
 whole {out} {text} {out′} {end} w fits =

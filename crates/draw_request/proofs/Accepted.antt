@@ -12,7 +12,7 @@ use Rattle.text.specs.declared.read.Number.{Number}
 use Rattle.text.specs.declared.read.Number.the-variants.{Value, Invalid}
 use Rattle.text.proofs.Fields.{two-fields-size}
 use Rattle.text.proofs.Numeral.{decimal-read, decimal-size}
-use Rattle.draw_request.specs.Requests.{onNumber, readNumbers, readLine, readRequest}
+use Rattle.draw_request.specs.Requests.{both, readLine, readRequest}
 use Rattle.draw_request.specs.declared.Request.{Request}
 use Rattle.draw_request.specs.declared.Request.the-variants.{Draws, Refused}
 
@@ -25,12 +25,12 @@ not-draws : {C : Type 0} {state count : ℕ} → Refused ≡ Draws state count �
 not-draws h = let z : _≡_ {A = ℕ} 0 1 = cc in absurd (omega arith)
 
 pub accepted : (input : List ℕ) (state count : ℕ) → readRequest input ≡ Draws state count → Accepted input state count
-unfolding readRequest readLine readNumbers onNumber body
+unfolding readRequest readLine both body
 accepted input state count h =
     go (ended input) (eqb (length (fields (body input))) 2) (decimal 4294967295 (field 0 (body input))) (decimal 1000 (field 1 (body input))) refl refl refl h
   where
     go : (t two : Bool) (x y : Number) → eqb (length (fields (body input))) 2 ≡ two → decimal 4294967295 (field 0 (body input)) ≡ x → decimal 1000 (field 1 (body input)) ≡ y
-        → cond t (cond two (onNumber x λ s. onNumber y λ n. Draws s n) Refused) Refused ≡ Draws state count → Accepted input state count
+        → cond t (cond two (both x y) Refused) Refused ≡ Draws state count → Accepted input state count
     go true true (Value s) (Value n) e ex ey h =
         let s-is : s ≡ state = cc in
         let n-is : n ≡ count = cc in

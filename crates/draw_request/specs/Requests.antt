@@ -8,18 +8,15 @@ use Rattle.text.specs.declared.read.Number.the-variants.{Value, Invalid}
 use Rattle.draw_request.specs.declared.Request.{Request}
 use Rattle.draw_request.specs.declared.Request.the-variants.{Draws, Refused}
 
-unfoldable pub onNumber : Number → (ℕ → Request) → Request
-onNumber (Value n) f = f n
-onNumber Invalid f = Refused
+-- a state and a count, if both could be read
+unfoldable pub both : Number → Number → Request
+both (Value state) (Value count) = Draws state count
+both (Value state) Invalid = Refused
+both Invalid count = Refused
 
--- two decimals: a state below 2^32, and a count from 0 to 1000
-unfoldable pub readNumbers : List ℕ → List ℕ → Request
-unfolding onNumber
-readNumbers state count = onNumber (decimal 4294967295 state) λ s. onNumber (decimal 1000 count) λ n. Draws s n
-
--- the two fields of a line
+-- two decimals in two fields: a state below 2^32, and a count from 0 to 1000
 unfoldable pub readLine : List ℕ → Request
-readLine line = cond (hasFields 2 line) (readNumbers (field 0 line) (field 1 line)) Refused
+readLine line = cond (hasFields 2 line) (both (decimal 4294967295 (field 0 line)) (decimal 1000 (field 1 line))) Refused
 
 -- a line and its end
 unfoldable pub readRequest : List ℕ → Request

@@ -8,13 +8,14 @@ pub enum Request {
     Refused,
 }
 
-fn read_numbers(state: &[u8], count: &[u8]) -> Request
-    ensures { λ r. ⌜ r ≡ Requests.readNumbers (now (state .entry)) (now (count .entry)) ⌝ }
+// A state and a count, if both could be read.
+fn both(state: Number, count: Number) -> Request
+    ensures { λ r. ⌜ r ≡ Requests.both state count ⌝ }
 {
-    let Number::Value(s) = text::read::decimal(state, 0xffff_ffff) else {
+    let Number::Value(s) = state else {
         return Request::Refused;
     };
-    let Number::Value(n) = text::read::decimal(count, 1000) else {
+    let Number::Value(n) = count else {
         return Request::Refused;
     };
     Request::Draws { state: s, count: n }
@@ -32,7 +33,8 @@ fn read_line(line: &[u8]) -> Request
     if text::read::field_end(line, start) != line.len() {
         return Request::Refused;
     }
-    read_numbers(&line[..comma], &line[start..])
+    let state = text::read::decimal(&line[..comma], 0xffff_ffff);
+    both(state, text::read::decimal(&line[start..], 1000))
 }
 
 // What an input asks for. One of more than 16 bytes is refused (`long-refused` in the proofs).

@@ -10,5 +10,5 @@ pub read-line-spec : {M : Type 1} → statement M
 read-line-spec =
     tie.close
     (tie.spec (λ c κs. tt) (λ c. search one-field) (λ c. search needs) (λ c κs. tt) (λ c. search more-fields)
-    (λ c. sym (length-take-le _ _ (search needs))) (λ c. search needs) (λ c. search needs) (λ c. search needs) (λ c κs. tt)
-    (λ c. search two-fields))
+    (λ c. sym (length-take-le _ _ (search needs))) (λ c κs. tt) (λ c. search needs) (λ c. search needs) (λ c. search needs) (λ c κs. tt)
+    (λ c κs. tt) (λ c. search two-fields))

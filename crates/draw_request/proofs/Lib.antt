@@ -1,3 +1,2 @@
 -- The laws of `draw_request` beside the proofs of its functions.
-mod Reading
-pub mod Accepted
+pub mod Requests

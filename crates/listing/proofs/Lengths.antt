@@ -13,7 +13,7 @@ use Rattle.text.proofs.Digits.{pattern-length, decimal-length}
 use Rattle.draw_request.specs.Requests.{readRequest}
 use Rattle.draw_request.specs.declared.Request.{Request}
 use Rattle.draw_request.specs.declared.Request.the-variants.{Draws, Refused}
-use Rattle.draw_request.proofs.Accepted.{accepted}
+use Rattle.draw_request.proofs.Requests.{accepted}
 use Rattle.listing.specs.Draws.{row, rows, answer, text}
 
 word-below : (state : ℕ) → getFloat state .word < 2 ^ 32

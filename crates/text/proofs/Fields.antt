@@ -1,4 +1,4 @@
--- The fields of a line, cut at each comma (44): a cursor that goes from one to the next, and how long they are.
+-- The fields of a line, cut at each comma (44): a cursor that goes from one to the next.
 use Prim.Native.Nat.{ℕ, zero, suc, _+_, _-_, _≤_, _<_}
 use native.Mathlib.Nat.{zero-add, add-zero, suc-add}
 use native.Mathlib.Numerals.{add-one}
@@ -8,7 +8,7 @@ use mathlib.Core.Path.{_≡_, refl, sym, ap, _∙_}
 use mathlib.Core.Bool.{Bool, true, false, cond}
 use mathlib.Core.List.{List, [], _∷_}
 use lib.Dec.{leb, eqb, leb·zero, leb·suc-zero, leb·suc-suc}
-use lib.ListN.{length, getD, take, drop, length-take, length-drop}
+use lib.ListN.{length, getD, take, drop, length-drop}
 use lib.Seq.{drop-drop, getD-drop, take-nil}
 use borrow.Author.Tests.{le-leb, lt-leb}
 use Rattle.text.specs.Read.{indexOf, attach, fields, field, fieldEnd}
@@ -60,7 +60,7 @@ module _ (line : List ℕ) where
   unfolding from
   from-none at h = rw (lt-leb at (length line) h)
 
-  end-inside : (at : ℕ) → at ≤ length line → fieldEnd at line ≤ length line
+  pub end-inside : (at : ℕ) → at ≤ length line → fieldEnd at line ≤ length line
   end-inside at h = omega (arith, indexOf-le 44 (drop at line), length-drop at line)
 
   from-start : (k : ℕ) → drop k (fields line) ≡ from (fieldStart k line) line
@@ -97,28 +97,3 @@ module _ (line : List ℕ) where
         go (yes l) (yes m) = omega (arith, count, from-some (suc e) m)
         go (yes l) (no m) = h (omega (arith, end-inside at l))
         go (no l) m = omega (arith, count, from-none at (omega arith))
-
--- two fields and the comma between them are the line
-pub two-fields-size : (line : List ℕ) → length (fields line) ≡ 2 → length line ≡ length (field 0 line) + 1 + length (field 1 line)
-unfolding fieldStart
-two-fields-size line two = go (decLe (length line) comma) (decLe (length line) end)
-  where
-    comma : ℕ
-    comma = fieldEnd 0 line
-
-    end : ℕ
-    end = fieldEnd (comma + 1) line
-
-    next : fieldStart 1 line ≡ comma + 1
-    next = next-starts line 0 refl refl
-
-    first : length (between 0 comma line) ≡ length (field 0 line)
-    first = ap length (field-here line 0 refl refl)
-
-    second : length (between (comma + 1) end line) ≡ length (field 1 line)
-    second = ap length (field-here line 1 next refl)
-
-    go : Dec (length line ≤ comma) → Dec (length line ≤ end) → length line ≡ length (field 0 line) + 1 + length (field 1 line)
-    go (yes c) e = absurd (omega (arith, field-last line 0 refl refl (omega (arith, end-inside line 0 (omega arith)))))
-    go (no c) (no e) = absurd (field-not-last line 1 next refl (λ h. omega arith) two)
-    go (no c) (yes e) = omega (arith, simp (length-take, length-drop) at first, simp (length-take, length-drop) at second, end-inside line (comma + 1) (omega arith))

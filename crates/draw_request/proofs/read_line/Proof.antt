@@ -1,7 +1,7 @@
 -- Each return is a case of the definition.
 use mathlib.Core.Path.{sym}
 use lib.Seq.{length-take-le}
-use Rattle.draw_request.proofs.Reading.{one-field, more-fields, two-fields}
+use Rattle.draw_request.proofs.Requests.{one-field, more-fields, two-fields}
 use borrow.Author.Needs.{needs}
 use Rattle.draw_request.proofs.read_line.Statement.{statement}
 use Rattle.draw_request.proofs.read_line.Tie as tie

@@ -7,21 +7,13 @@ use borrow.Author.Needs.{needs}
 use Rattle.listing.proofs.draws.Statement.{statement}
 use Rattle.listing.proofs.draws.Tie as tie
 
-returns : tie.Need-returns
-unfolding answer
-returns c =
-    let header = c .before .before in
-    let arm = header .before .before .before .before in
-    listed _ (arm .before .before .read-request .ensures) (arm .state .given .1) (omega arith) (then (header .bytes .ensures) (c .put-rows .ensures))
-
-returns-2 : tie.Need-returns-2
-unfolding answer
-returns-2 c =
-    let arm = c .before .before in
-    listed _ (arm .before .before .read-request .ensures) (arm .enum-told .given .1) (omega arith) (c .put-refused .ensures)
-
 pub draws-spec : {M : Type 1} → statement M
+unfolding answer
 draws-spec =
     tie.close
-    (tie.spec (λ c κs. tt) (λ c. search needs) (λ c. search needs) (λ c κs. tt) (λ c κs. tt) (λ c. search needs) (λ c κs. tt)
-    returns returns-2)
+    (tie.spec (λ c κs. tt) (λ c. search needs) (λ c. search needs) (λ c κs. tt) (λ c κs. tt) (λ c. search needs) (λ c κs. tt) (λ c.
+    let header = c .before .before in
+    let arm = header .before .before .before .before in
+    listed _ (arm .before .before .read-request .ensures) (arm .state .given .1) (omega arith) (then (header .bytes .ensures) (c .put-rows .ensures))) (λ c.
+    let arm = c .before .before in
+    listed _ (arm .before .before .read-request .ensures) (arm .enum-told .given .1) (omega arith) (c .put-refused .ensures)))

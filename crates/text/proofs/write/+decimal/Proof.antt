@@ -2,32 +2,26 @@
 use Prim.Native.Nat.{ℕ, _<_}
 use native.Mathlib.Omega.{arith}
 use borrow.Author.Needs.{needs}
-use borrow.Fn.Kinds.{In}
 use borrow.Fn.PlainCycle.{Measures, is, falls, and}
 use Rattle.text.proofs.Digits.{one-digit, last-digit}
 use Rattle.text.proofs.Written.{then}
 use Rattle.text.proofs.write.decimal.Reads as decimal
-use Rattle.text.proofs.write.decimal.Kinds as decimal-kinds
+use Rattle.text.proofs.write.decimal.Kinds.{ps}
 use Rattle.text.proofs.write.+decimal.Lts-decimal as decimal-lts
 use Rattle.text.proofs.write.byte.Reads as byte
 use Rattle.text.proofs.write.digit.Reads as digit
 use Rattle.text.proofs.write.+decimal.{statement}
 use Rattle.text.proofs.write.+decimal.Tie.{close}
 
-abbrev μ-decimal : Measures 1 decimal-kinds.ps ℕ
+abbrev μ-decimal : Measures 1 ps ℕ
 μ-decimal κs a = a .1 .1 .0
-
--- what `decimal` is given at the measure t, and what its call of itself asks below t
-abbrev at-measure : ℕ → In 1 decimal-kinds.ps
-at-measure t = and 1 decimal-kinds.ps (is 1 decimal-kinds.ps μ-decimal t) decimal.Pre
-
-abbrev below : ℕ → In 1 decimal-kinds.ps
-below t = and 1 decimal-kinds.ps (falls 1 decimal-kinds.ps _<_ μ-decimal t) decimal.Pre
 
 pub +decimal-spec : {M : Type 1} → statement M
 +decimal-spec =
     close μ-decimal λ t.
-    decimal-lts.spec (digit.Asked, digit.Learnt, byte.Asked, byte.Learnt, below t, decimal.Post) (at-measure t) decimal.Post
+    let at-t = and 1 ps (is 1 ps μ-decimal t) decimal.Pre in
+    let below = and 1 ps (falls 1 ps _<_ μ-decimal t) decimal.Pre in
+    decimal-lts.spec (digit.Asked, digit.Learnt, byte.Asked, byte.Learnt, below, decimal.Post) at-t decimal.Post
     (λ c κs. search needs) (λ c κs. tt) (λ c. search needs)
     (λ c. let b = c .before .before in rw (one-digit _ (b .before .before .before .if1 .taken), ← b .before .digit .ensures) (b .byte .ensures))
     (λ c κs. (omega (arith, c .before .before .before .pre .0), tt)) (λ c κs. search needs) (λ c κs. tt) (λ c. search needs)

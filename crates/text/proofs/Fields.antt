@@ -12,7 +12,7 @@ use lib.ListN.{length, getD, take, drop, length-drop}
 use lib.Seq.{drop-drop, getD-drop, take-nil}
 use borrow.Author.Tests.{le-leb, lt-leb}
 use Rattle.text.specs.Read.{indexOf, attach, fields, field, fieldEnd}
-use Rattle.text.proofs.Find.{indexOf-le}
+use Rattle.text.proofs.Lines.{indexOf-le}
 
 -- the bytes from one place to another
 abbrev pub between : ℕ → ℕ → List ℕ → List ℕ

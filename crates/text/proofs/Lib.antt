@@ -1,7 +1,6 @@
 -- The laws of `text` beside the proofs of its functions.
 pub mod Digits
 pub mod Fields
-mod Find
 pub mod Lines
 pub mod Numeral
 pub mod Written

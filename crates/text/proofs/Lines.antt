@@ -1,6 +1,7 @@
--- The lines of a text, each with its end (10), walked one after the other.
+-- The search for a byte, and the lines of a text, each with its end (10), walked one after the other.
 use Prim.Native.Nat.{ℕ, suc, _+_, _-_, _≤_, _<_, min}
 use native.Mathlib.Nat.{not-suc-le-zero}
+use native.Mathlib.Numerals.{add-one}
 use native.Mathlib.Omega.{arith}
 use native.Mathlib.Decide.{decLe}
 use mathlib.Core.Path.{_≡_, refl, sym, ap, _∙_}
@@ -8,9 +9,34 @@ use mathlib.Core.Bool.{Bool, true, false, cond}
 use mathlib.Core.List.{List, [], _∷_}
 use lib.Dec.{eqb}
 use lib.ListN.{length, getD, take, drop, drop-of-length-le, length-take, length-drop}
-use lib.Seq.{drop-drop, take-all}
+use lib.Seq.{drop-cons, drop-drop, take-all}
+use borrow.Author.Tests.{eq-eqb, ne-eqb}
 use Rattle.text.specs.Read.{attach, lines, lineAt, indexOf}
-use Rattle.text.proofs.Find.{indexOf-le}
+
+-- ---- from place i the first b lies where it does from place at
+module _ (s : List ℕ) (at b i : ℕ) (g : at + indexOf b (drop at s) ≡ i + indexOf b (drop i s)) where
+  pub over : length s ≤ i → i ≡ at + indexOf b (drop at s)
+  unfolding indexOf
+  over h = sym (g ∙ rw (drop-of-length-le s {i = i} h) (omega arith))
+
+  pub here : i < length s → getD s i 0 ≡ b → i ≡ at + indexOf b (drop at s)
+  unfolding indexOf
+  here h e = sym (g ∙ rw (drop-cons s i 0 h, eq-eqb (getD s i 0) b e) (omega arith))
+
+  pub on : i < length s → (getD s i 0 ≡ b → ⊥) → at + indexOf b (drop at s) ≡ (i + 1) + indexOf b (drop (i + 1) s)
+  unfolding indexOf
+  on h e = g ∙ rw (drop-cons s i 0 h, ne-eqb (getD s i 0) b e, add-one i) (omega arith)
+
+pub indexOf-le : (b : ℕ) (l : List ℕ) → indexOf b l ≤ length l
+unfolding indexOf
+indexOf-le b [] = omega arith
+indexOf-le b (x ∷ xs) = go (eqb x b) (indexOf-le b xs)
+  where
+    go : (t : Bool) → indexOf b xs ≤ length xs → cond t 0 (suc (indexOf b xs)) ≤ suc (length xs)
+    go true h = omega arith
+    go false h = omega arith
+
+-- ---- lines
 
 -- the first k bytes of a text as its first line
 abbrev cut : ℕ → List ℕ → List (List ℕ)

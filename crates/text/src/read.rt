@@ -66,19 +66,7 @@ pub fn field_end(line: &[u8], at: usize) -> usize
 fn digit(b: u8) -> u64
     ensures { λ r. ⌜ r ≡ Read.digit b ⌝ }
 {
-    if b < b'0' {
-        return 16;
-    }
-    if b <= b'9' {
-        return (b - b'0') as u64;
-    }
-    if b < b'a' {
-        return 16;
-    }
-    if b <= b'f' {
-        return (b - b'a' + 10) as u64;
-    }
-    16
+    find(b"0123456789abcdef", 0, b) as u64
 }
 
 // The number that digits in a base stand for, if it is at most `limit`. A number that passes the limit on the way stays above it.

@@ -3,7 +3,7 @@ use Prim.Native.Nat.{_+_, _-_, _≤_, max}
 use mathlib.Core.Path.{_≡_, refl}
 use lib.ListN.{length, drop}
 use Rattle.text.specs.Read.{indexOf}
-use Rattle.text.proofs.Find.{over, here, on}
+use Rattle.text.proofs.Lines.{over, here, on}
 use borrow.Author.Needs.{needs}
 use Rattle.text.proofs.read.find.Statement.{statement}
 use Rattle.text.proofs.read.find.Tie as tie

@@ -1,5 +1,5 @@
--- The request that a line makes, by what the code finds out about its fields one after the other; an accepted input has a state of 32 bits, a count
--- of at most 1000, and at most 16 bytes.
+-- The request that a line makes, by what the code finds out about its fields one after the other; an accepted input has a state of
+-- 32 bits, a count of at most 1000, and at most 16 bytes.
 use Prim.Native.Nat.{ℕ, _+_, _-_, _^_, _≤_, _<_}
 use native.Mathlib.Nat.{sub-zero}
 use native.Mathlib.Omega.{arith}
@@ -35,8 +35,8 @@ module _ (line : List ℕ) {comma : ℕ} (first : comma ≡ fieldEnd 0 line) whe
     unfolding readLine
     more-fields m = rw (ne-eqb (length (fields line)) 2 (field-not-last line 1 next second m))
 
-    pub two-fields : end ≡ length line → {x y : Number} → x ≡ decimal 4294967295 (take comma line) → y ≡ decimal 1000 (between (comma + 1) (length line) line)
-        → {q : Request} → q ≡ both x y → q ≡ readLine line
+    pub two-fields : end ≡ length line → {x y : Number} → x ≡ decimal 4294967295 (take comma line)
+        → y ≡ decimal 1000 (between (comma + 1) (length line) line) → {q : Request} → q ≡ both x y → q ≡ readLine line
     unfolding readLine
     two-fields l ex ey e =
         let first-is = rw sub-zero at (field-here line 0 start first) in
@@ -70,21 +70,18 @@ numbers f g state count h = go (decimal 4294967295 f) (decimal 1000 g) refl refl
 
 pub accepted : (input : List ℕ) (state count : ℕ) → readRequest input ≡ Draws state count → Accepted input state count
 unfolding readRequest body
-accepted input state count h = go (ended input) (decLe (length line) comma) (decLe (length line) end) h
+accepted input state count h = go (ended input) (decLe (length line) (fieldEnd 0 line)) (decLe (length line) (fieldEnd (fieldEnd 0 line + 1) line)) h
   where
     line : List ℕ
     line = body input
 
-    comma : ℕ
-    comma = fieldEnd 0 line
-
-    end : ℕ
-    end = fieldEnd (comma + 1) line
-
-    go : (t : Bool) → Dec (length line ≤ comma) → Dec (length line ≤ end) → cond t (readLine line) Refused ≡ Draws state count → Accepted input state count
+    go : (t : Bool) → Dec (length line ≤ fieldEnd 0 line) → Dec (length line ≤ fieldEnd (fieldEnd 0 line + 1) line)
+        → cond t (readLine line) Refused ≡ Draws state count → Accepted input state count
     go true (no c) (yes e) h =
-        let last : end ≡ length line = omega (arith, end-inside line (comma + 1) (omega arith)) in
-        let r = numbers (take comma line) (between (comma + 1) (length line) line) state count (two-fields line refl refl last refl refl refl ∙ h) in
+        let comma = fieldEnd 0 line in
+        let last : fieldEnd (comma + 1) line ≡ length line = omega (arith, end-inside line (comma + 1) (omega arith)) in
+        let known = two-fields line refl refl last refl refl refl ∙ h in
+        let r = numbers (take comma line) (between (comma + 1) (length line) line) state count known in
         let ten = simp length-take at (r .2) in
         let four = simp (length-take, length-drop) at (r .3) in
         record { below = r .0; most = r .1; short = omega (arith, length-take (length input - 1) input) }

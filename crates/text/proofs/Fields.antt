@@ -34,7 +34,8 @@ opened [] = refl
 opened (x ∷ xs) = go (eqb x 44) (opened xs)
   where
     go : (t : Bool) → fields xs ≡ take (indexOf 44 xs) xs ∷ from (suc (indexOf 44 xs)) xs
-        → cond t ([] ∷ fields xs) (attach x (fields xs)) ≡ take (cond t 0 (suc (indexOf 44 xs))) (x ∷ xs) ∷ from (suc (cond t 0 (suc (indexOf 44 xs)))) (x ∷ xs)
+        → cond t ([] ∷ fields xs) (attach x (fields xs))
+        ≡ take (cond t 0 (suc (indexOf 44 xs))) (x ∷ xs) ∷ from (suc (cond t 0 (suc (indexOf 44 xs)))) (x ∷ xs)
     go true e = rw (leb·suc-suc, leb·zero)
     go false e = rw leb·suc-suc (ap (attach x) e)
 

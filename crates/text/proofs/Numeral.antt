@@ -1,6 +1,6 @@
 -- Reading a number digit by digit, up to a limit; how large it is, and how many digits it can have.
 use Prim.Native.Nat.{ℕ, suc, _+_, _*_, _^_, _≤_, _<_}
-use native.Mathlib.Nat.{le-mul-of-pos-right, mul-le-mul, mul-le-mul-right, mul-one, mul-assoc, suc-mul, pow-zero, pow-succ', pow-le-pow-right}
+use native.Mathlib.Nat.{le-mul-of-pos-right, mul-le-mul, mul-le-mul-right, mul-one, mul-assoc, suc-mul, pow-zero, pow-succ', pow-le-pow-right, one-le-pow}
 use native.Mathlib.Numerals.{add-one}
 use native.Mathlib.Omega.{arith}
 use native.Mathlib.Decide.{decLe}
@@ -21,46 +21,6 @@ unfolding wellFormed
 form [] = refl
 form (d ∷ []) = refl
 form (d ∷ e ∷ ds) = rw (ne-eqb (suc (suc (length ds))) 0 (λ h. omega arith), ne-eqb (suc (suc (length ds))) 1 (λ h. omega arith))
-
--- digits make no number less: one above the limit stays above it
-numeral-above : (base limit n : ℕ) (ds : List ℕ) → 0 < base → limit < n → upTo limit (numeral base n ds) ≡ Invalid
-unfolding numeral upTo
-numeral-above base limit n [] p h = rw (lt-leb n limit h)
-numeral-above base limit n (d ∷ ds) p h =
-    go (ltb (digit d) base) (numeral-above base limit (n * base + digit d) ds p (omega (arith, le-mul-of-pos-right n p)))
-  where
-    go : (t : Bool) → upTo limit (numeral base (n * base + digit d) ds) ≡ Invalid → upTo limit (cond t (numeral base (n * base + digit d) ds) Invalid) ≡ Invalid
-    go true e = e
-    go false e = refl
-
--- a loop that reads: the digits before place i stand for n, and those from i on are read on from it
-pub record Reading (base limit : ℕ) (text : List ℕ) (n i : ℕ) : Type 0 where
-  pub within : n ≤ limit
-  pub left : numeral base 0 text ≡ numeral base n (drop i text)
-
-module _ {base limit : ℕ} {text : List ℕ} {n i : ℕ} (g : Reading base limit text n i) where
-  pub end : length text ≤ i → Value n ≡ upTo limit (numeral base 0 text)
-  unfolding numeral upTo
-  end h = sym (rw (g .left, drop-of-length-le text {i = i} h, le-leb n limit (g .within)))
-
-  -- one digit of a base up to 16 more, and the number still fits 64 bits
-  pub room : limit < 2 ^ 32 → base ≤ 16 → n * base ≤ 2 ^ 36
-  room h b = mul-le-mul {n₁ = n} {m₁ = base} {n₂ = 2 ^ 32} {m₂ = 16} (omega (arith, g .within)) b
-
-  module _ (h : i < length text) {d : ℕ} (here : d ≡ digit (getD text i 0)) where
-    opened : numeral base 0 text ≡ cond (ltb d base) (numeral base (n * base + d) (drop (i + 1) text)) Invalid
-    unfolding numeral
-    opened = g .left ∙ rw (drop-cons text i 0 h, here, add-one)
-
-    pub no-digit : base ≤ d → Invalid ≡ upTo limit (numeral base 0 text)
-    unfolding upTo
-    no-digit l = sym (rw (opened, le-ltb d base l))
-
-    pub too-large : 0 < base → d < base → limit < n * base + d → Invalid ≡ upTo limit (numeral base 0 text)
-    too-large p l over = sym (rw (opened, lt-ltb d base l) (numeral-above base limit (n * base + d) (drop (i + 1) text) p over))
-
-    pub turn : d < base → n * base + d ≤ limit → Reading base limit text (n * base + d) (i + 1)
-    turn l k = record { within = k; left = opened ∙ rw (lt-ltb d base l) }
 
 -- ---- a number that is read
 no-value : {C : Type 0} {n : ℕ} → Invalid ≡ Value n → C
@@ -87,6 +47,44 @@ bounds base m n (d ∷ ds) h =
     let high : suc (m * base + digit d) * power ≤ suc m * base * power = mul-le-mul-right power (rw suc-mul (omega arith)) in
     rw (pow-succ', ← mul-assoc, ← mul-assoc) (omega arith, omega arith)
 
+-- digits make no number less: one above the limit stays above it
+above : (base limit n : ℕ) (ds : List ℕ) → 0 < base → limit < n → upTo limit (numeral base n ds) ≡ Invalid
+unfolding upTo
+above base limit n ds p h = go (numeral base n ds) refl
+  where
+    go : (x : Number) → numeral base n ds ≡ x → upTo limit x ≡ Invalid
+    go (Value v) e = rw (lt-leb v limit (omega (arith, bounds base n v ds e .0, le-mul-of-pos-right n (one-le-pow (length ds) base p))))
+    go Invalid e = refl
+
+-- a loop that reads: the digits before place i stand for n, and those from i on are read on from it
+pub record Reading (base limit : ℕ) (text : List ℕ) (n i : ℕ) : Type 0 where
+  pub within : n ≤ limit
+  pub left : numeral base 0 text ≡ numeral base n (drop i text)
+
+module _ {base limit : ℕ} {text : List ℕ} {n i : ℕ} (g : Reading base limit text n i) where
+  pub end : length text ≤ i → Value n ≡ upTo limit (numeral base 0 text)
+  unfolding numeral upTo
+  end h = sym (rw (g .left, drop-of-length-le text {i = i} h, le-leb n limit (g .within)))
+
+  -- one digit of a base up to 16 more, and the number still fits 64 bits
+  pub room : limit < 2 ^ 32 → base ≤ 16 → n * base ≤ 2 ^ 36
+  room h b = mul-le-mul {n₁ = n} {m₁ = base} {n₂ = 2 ^ 32} {m₂ = 16} (omega (arith, g .within)) b
+
+  module _ (h : i < length text) {d : ℕ} (here : d ≡ digit (getD text i 0)) where
+    opened : numeral base 0 text ≡ cond (ltb d base) (numeral base (n * base + d) (drop (i + 1) text)) Invalid
+    unfolding numeral
+    opened = g .left ∙ rw (drop-cons text i 0 h, here, add-one)
+
+    pub no-digit : base ≤ d → Invalid ≡ upTo limit (numeral base 0 text)
+    unfolding upTo
+    no-digit l = sym (rw (opened, le-ltb d base l))
+
+    pub too-large : 0 < base → d < base → limit < n * base + d → Invalid ≡ upTo limit (numeral base 0 text)
+    too-large p l over = sym (rw (opened, lt-ltb d base l) (above base limit (n * base + d) (drop (i + 1) text) p over))
+
+    pub turn : d < base → n * base + d ≤ limit → Reading base limit text (n * base + d) (i + 1)
+    turn l k = record { within = k; left = opened ∙ rw (lt-ltb d base l) }
+
 -- eight hexadecimal digits stand for less than 2 ^ 32
 pub eight-digits : (text : List ℕ) {x : Number} → length text ≡ 8 → x ≡ upTo 4294967295 (numeral 16 0 text) → x ≡ numeral 16 0 text
 unfolding upTo
@@ -106,7 +104,8 @@ pub decimal-read : (limit n : ℕ) (text : List ℕ) → decimal limit text ≡ 
 unfolding decimal upTo
 decimal-read limit n text h = go (wellFormed text) (numeral 10 0 text) refl refl h
   where
-    up : (t : Bool) (m : ℕ) → leb m limit ≡ t → wellFormed text ≡ true → numeral 10 0 text ≡ Value m → cond t (Value m) Invalid ≡ Value n → DecimalRead limit n text
+    up : (t : Bool) (m : ℕ) → leb m limit ≡ t → wellFormed text ≡ true → numeral 10 0 text ≡ Value m → cond t (Value m) Invalid ≡ Value n
+        → DecimalRead limit n text
     up true m e w x h = let same : m ≡ n = cc in record { form = w; digits = x ∙ h; most = omega (arith, leb-true m limit e) }
     up false m e w x h = no-value h
 

@@ -14,6 +14,7 @@ draws-spec =
     (tie.spec (λ c κs. tt) (λ c. search needs) (λ c. search needs) (λ c κs. tt) (λ c κs. tt) (λ c. search needs) (λ c κs. tt) (λ c.
     let header = c .before .before in
     let arm = header .before .before .before .before in
-    listed _ (arm .before .before .read-request .ensures) (arm .state .given .1) (omega arith) (then (header .bytes .ensures) (c .put-rows .ensures))) (λ c.
+    listed _ (arm .before .before .read-request .ensures) (arm .state .given .1) (omega arith) (then (header .bytes .ensures) (c .put-rows .ensures)))
+    (λ c.
     let arm = c .before .before in
     listed _ (arm .before .before .read-request .ensures) (arm .enum-told .given .1) (omega arith) (c .put-refused .ensures)))

@@ -17,5 +17,5 @@ abbrev μ-loop : tie.MeasureT-loop
 pub find-spec : {M : Type 1} → statement M
 find-spec =
     tie.close
-    (tie.spec Inv-loop μ-loop (λ c. (refl, search needs)) (λ c. search needs) (λ c. (search here, search needs)) (λ c. search needs) (λ c. search needs) (λ c. (search on, search needs))
-    (λ c. (search over, search needs)))
+    (tie.spec Inv-loop μ-loop (λ c. (refl, search needs)) (λ c. search needs) (λ c. (search here, search needs)) (λ c. search needs)
+    (λ c. search needs) (λ c. (search on, search needs)) (λ c. (search over, search needs)))

@@ -8,8 +8,8 @@ pub pattern-spec : {M : Type 1} → statement M
 unfolding pattern
 pattern-spec =
     tie.close
-    (tie.spec (λ c κs. tt) (λ c κs. tt) (λ c κs. tt) (λ c κs. tt) (λ c κs. tt) (λ c κs. tt) (λ c κs. tt) (λ c κs. tt) (λ c. search needs) (λ c κs. tt)
-    (λ c. search needs) (λ c.
+    (tie.spec (λ c κs. tt) (λ c κs. tt) (λ c κs. tt) (λ c κs. tt) (λ c κs. tt) (λ c κs. tt) (λ c κs. tt) (λ c κs. tt) (λ c. search needs)
+    (λ c κs. tt) (λ c. search needs) (λ c.
     let b = c .before .before in
     let d8 = b .before .before .before in
     let d5 = d8 .before .before .before in

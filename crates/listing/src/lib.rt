@@ -3,7 +3,6 @@ use cue_sheet::Judgment;
 use draw_request::Request;
 use random::Draw;
 use refusal::Refusal;
-ghost use mathlib.Core.Path.{_≡_};
 ghost use mathlib.Core.List.{[], _∷_, _++_};
 ghost use lib.Ieee.{binary32, toBits};
 ghost use Rattle.text.specs.Write as Write;

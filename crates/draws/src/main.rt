@@ -1,6 +1,6 @@
 // Reads `state,count` and a line end from standard input, and prints that many draws of the noise generator from that state.
-// 17 bytes of the input are enough: an accepted input has at most 16, and a longer one gets the answer of its first 17 bytes
-// (`first-bytes` in the proofs of `listing`).
+// 17 bytes of the input are enough: one of more than 16 is refused, and so are its first 17 (`long-refused` in the proofs of
+// `draw_request`).
 use libc::STDIN_FILENO;
 use libc::STDOUT_FILENO;
 

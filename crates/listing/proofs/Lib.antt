@@ -2,4 +2,3 @@
 mod Lengths
 mod Rows
 mod SheetListing
-mod Requests

@@ -12,15 +12,13 @@ use Rattle.cue_sheet.specs.Sheet.{SheetAnswer, accepted, refusedAt, judge, stri
 use Rattle.cue_sheet.proofs.Judging.{accepted-head}
 use Rattle.cue_render.specs.Render.{samples, inBuffer, filled}
 use Rattle.cue_render.specs.Render as Render
-use Rattle.text.proofs.Digits.{pattern-length}
-use Rattle.text.proofs.DecimalPlaces.{decimal-length}
+use Rattle.text.proofs.Digits.{pattern-length, decimal-length}
 use Rattle.refusal.specs.Refusal.{number}
 use Rattle.refusal.specs.declared.Refusal.{Refusal}
-use Rattle.refusal.proofs.ByNumber.{refused}
-use Rattle.text.specs.Write.{Written, Whole, ascii}
+use Rattle.refusal.proofs.ByNumber as ByNumber
+use Rattle.text.specs.Write.{Written, Whole, ascii, refused}
 use Rattle.text.proofs.Written.{whole}
 use Rattle.listing.specs.Cues.{row, rows, answer, text}
-use Rattle.listing.specs.Refused as Refused
 
 row-length : (n : ℕ) (x : Float) → n < 100000 → List.length (row n x) ≤ 15
 unfolding row
@@ -71,9 +69,9 @@ module _ (sheet : List ℕ) (buffer : List Float) (size : List.length buffer ≡
           rw judged (whole (rw samples-are at w) fits)
 
   pub refused-line : (refusal : Refusal) {line : ℕ} → Render.answer sheet buffer ≡ refusedAt (number refusal) line → line < 10000000000
-      → {out out′ : List ℕ} {end : ℕ} → List.length out ≡ 245772 → Written out 0 (Refused.text (number refusal) line) end out′ → Whole out (text sheet) end out′
-  unfolding text answer Refused.text
+      → {out out′ : List ℕ} {end : ℕ} → List.length out ≡ 245772 → Written out 0 (refused (number refusal) line) end out′ → Whole out (text sheet) end out′
+  unfolding text answer refused
   refused-line refusal {line = line} known below {out = out} room w =
-      let fits : List.length (Refused.text (number refusal) line) ≤ List.length out =
-      simp length-append (omega (arith, decimal-length 1 (number refusal) (omega (arith, refused refusal .1)), decimal-length 9 line below)) in
+      let fits : List.length (refused (number refusal) line) ≤ List.length out =
+      simp length-append (omega (arith, decimal-length 1 (number refusal) (omega (arith, ByNumber.refused refusal .1)), decimal-length 9 line below)) in
       rw (sym same-answer ∙ known) (whole w fits)

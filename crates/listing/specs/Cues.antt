@@ -6,7 +6,6 @@ use Rattle.cue_render.specs.Render.{samples}
 use Rattle.cue_sheet.specs.Sheet.{SheetAnswer, accepted, refusedAt, Strike, judge, strikes}
 use Rattle.text.specs.Write as Write
 use Rattle.text.specs.Write.{ascii}
-use Rattle.listing.specs.Refused as Refused
 
 -- the sample's index and its pattern; every not-a-number has one pattern, 7fc00000
 unfoldable pub row : ℕ → Float → List ℕ
@@ -19,7 +18,7 @@ rows n (x ∷ xs) = row n x ++ rows (suc n) xs
 
 unfoldable pub answer : SheetAnswer → List Strike → List ℕ
 answer (accepted rate length cues) strikes = ascii "sample,bits\n" ++ rows 0 (samples rate length strikes)
-answer (refusedAt number line) strikes = Refused.text number line
+answer (refusedAt number line) strikes = Write.refused number line
 
 unfoldable pub text : List ℕ → List ℕ
 text sheet = answer (judge sheet) (strikes sheet)

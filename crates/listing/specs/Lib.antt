@@ -1,4 +1,3 @@
 -- The definitions of `listing`.
 pub mod Cues
 pub mod Draws
-pub mod Refused

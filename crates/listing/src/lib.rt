@@ -1,9 +1,8 @@
 // The texts that the programs print.
 use cue_sheet::Judgment;
+use draw_request::Request;
 use random::Draw;
 use refusal::Refusal;
-use text::read::Number;
-ghost use mathlib.Core.Path.{_≡_};
 ghost use mathlib.Core.List.{[], _∷_, _++_};
 ghost use lib.Ieee.{binary32, toBits};
 ghost use Rattle.text.specs.Write as Write;
@@ -11,15 +10,6 @@ ghost use Rattle.text.specs.Write.{Written, Whole};
 ghost use Rattle.refusal.specs.Refusal.{number};
 ghost use Rattle.listing.specs.Cues as Cues;
 ghost use Rattle.listing.specs.Draws as Draws;
-ghost use Rattle.listing.specs.Refused as Refused;
-
-// A number and the byte after it.
-fn put_number(out: &mut [u8], at: usize, n: u64, after: u8) -> usize
-    ensures { λ r. ⌜ Written (now (out .entry)) at (Write.decimal n ++ after ∷ []) r (now (out .exit)) ⌝ }
-{
-    let end = text::write::decimal(out, at, n);
-    text::write::byte(out, end, after)
-}
 
 // The pattern of a float and the byte after it.
 fn put_pattern(out: &mut [u8], at: usize, x: f32, after: u8) -> usize
@@ -31,42 +21,9 @@ fn put_pattern(out: &mut [u8], at: usize, x: f32, after: u8) -> usize
 
 // The line that a refused input gets, alone.
 fn put_refused(out: &mut [u8], refusal: Refusal, line: u64) -> usize
-    ensures { λ r. ⌜ Written (now (out .entry)) 0 (Refused.text (number refusal) line) r (now (out .exit)) ⌝ }
+    ensures { λ r. ⌜ Written (now (out .entry)) 0 (Write.refused (number refusal) line) r (now (out .exit)) ⌝ }
 {
-    let start = text::write::bytes(out, 0, b"refused,");
-    let end = put_number(out, start, refusal.number() as u64, b',');
-    put_number(out, end, line, b'\n')
-}
-
-// What the input of `draws` asks for.
-enum Request {
-    Draws { state: u32, count: u32 },
-    Refused,
-}
-
-fn read_numbers(state: &[u8], count: &[u8]) -> Request
-    ensures { λ r. ⌜ r ≡ Draws.readNumbers (now (state .entry)) (now (count .entry)) ⌝ }
-{
-    let Number::Value(s) = text::read::decimal(state, 0xffff_ffff) else {
-        return Request::Refused;
-    };
-    let Number::Value(n) = text::read::decimal(count, 1000) else {
-        return Request::Refused;
-    };
-    Request::Draws { state: s, count: n }
-}
-
-fn read_request(input: &[u8]) -> Request
-    ensures { λ r. ⌜ r ≡ Draws.readRequest (now (input .entry)) ⌝ }
-{
-    if !text::read::ended(input) {
-        return Request::Refused;
-    }
-    let line = text::read::body(input);
-    if text::read::field_count(line) != 2 {
-        return Request::Refused;
-    }
-    read_numbers(text::read::field(line, 0), text::read::field(line, 1))
+    text::write::refused(out, 0, refusal.number(), line)
 }
 
 fn put_row(out: &mut [u8], at: usize, number: u32, draw: Draw) -> usize
@@ -74,8 +31,8 @@ fn put_row(out: &mut [u8], at: usize, number: u32, draw: Draw) -> usize
 {
     let word = draw.word;
     let value = draw.value;
-    let first = put_number(out, at, number as u64, b',');
-    let second = put_number(out, first, word as u64, b',');
+    let first = text::write::number(out, at, number as u64, b',');
+    let second = text::write::number(out, first, word as u64, b',');
     put_pattern(out, second, value, b'\n')
 }
 
@@ -94,10 +51,12 @@ fn put_rows(out: &mut [u8], at: usize, state: u32, count: u32) -> usize
     end
 }
 
-fn put_answer(out: &mut [u8], request: Request) -> usize
-    ensures { λ r. ⌜ Written (now (out .entry)) 0 (Draws.answer request) r (now (out .exit)) ⌝ }
+// What the program `draws` prints for its input, at the start of `out`. The header has 15 bytes and each of at most 1000 rows
+// at most 25: 4 + 1 + 10 + 1 + 8 + 1.
+pub fn draws(input: &[u8], out: &mut [u8; 25015]) -> usize
+    ensures { λ r. ⌜ Whole (now (out .entry)) (Draws.text (now (input .entry))) r (now (out .exit)) ⌝ }
 {
-    match request {
+    match draw_request::read_request(input) {
         Request::Draws { state, count } => {
             let end = text::write::bytes(out, 0, b"draw,word,bits\n");
             put_rows(out, end, state, count)
@@ -106,18 +65,10 @@ fn put_answer(out: &mut [u8], request: Request) -> usize
     }
 }
 
-// What the program `draws` prints for its input, at the start of `out`. The header has 15 bytes and each of at most 1000 rows
-// at most 25: 4 + 1 + 10 + 1 + 8 + 1.
-pub fn draws(input: &[u8], out: &mut [u8; 25015]) -> usize
-    ensures { λ r. ⌜ Whole (now (out .entry)) (Draws.text (now (input .entry))) r (now (out .exit)) ⌝ }
-{
-    put_answer(out, read_request(input))
-}
-
 fn put_sample(out: &mut [u8], at: usize, index: u64, x: f32) -> usize
     ensures { λ r. ⌜ Written (now (out .entry)) at (Cues.row index x) r (now (out .exit)) ⌝ }
 {
-    let end = put_number(out, at, index, b',');
+    let end = text::write::number(out, at, index, b',');
     put_pattern(out, end, x, b'\n')
 }
 

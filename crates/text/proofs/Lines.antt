@@ -1,107 +1,101 @@
--- The lines of a text, each with its end (10): cut at the first end, and walked one after the other.
-use Prim.Native.Nat.{ℕ, suc, _+_, _-_, _≤_, _<_}
+-- The search for a byte, and the lines of a text, each with its end (10), walked one after the other.
+use Prim.Native.Nat.{ℕ, suc, _+_, _-_, _≤_, _<_, min}
+use native.Mathlib.Nat.{not-suc-le-zero}
+use native.Mathlib.Numerals.{add-one}
 use native.Mathlib.Omega.{arith}
-use native.Mathlib.Decide.{decLt}
+use native.Mathlib.Decide.{decLe}
 use mathlib.Core.Path.{_≡_, refl, sym, ap, _∙_}
-use mathlib.Core.Bool.{true, false≢true}
-use mathlib.Core.List.{List, [], _∷_, _++_}
-use lib.ListN.{length, getD, take, drop, drop-of-length-le, length-append, length-drop}
-use lib.Seq.{split-at, take-append-seam, getD-append-seam, drop-drop, length-take-le, take-length, drop-length}
-use borrow.Author.Tests.{eq-eqb, eqb-true}
-use Rattle.text.specs.Read.{ended, body, attach, lines, lineAt, indexOf}
-use Rattle.text.proofs.Find.{indexOf-le, first-part, only-part}
+use mathlib.Core.Bool.{Bool, true, false, cond}
+use mathlib.Core.List.{List, [], _∷_}
+use lib.Dec.{eqb}
+use lib.ListN.{length, getD, take, drop, drop-of-length-le, length-take, length-drop}
+use lib.Seq.{drop-cons, drop-drop, take-all}
+use borrow.Author.Tests.{eq-eqb, ne-eqb}
+use Rattle.text.specs.Read.{attach, lines, lineAt, indexOf}
 
--- ---- one line and its end
-pub ended-line : (line : List ℕ) → (ended (line ++ (10 ∷ [])) ≡ true) × (body (line ++ (10 ∷ [])) ≡ line)
-unfolding ended body
-ended-line line =
-    let last : length (line ++ (10 ∷ [])) - 1 ≡ length line = omega (arith, length-append line (10 ∷ [])) in
-    rw last (eq-eqb _ 10 (getD-append-seam line 10 [] 0), take-append-seam line (10 ∷ []))
+-- ---- from place i the first b lies where it does from place at
+module _ (s : List ℕ) (at b i : ℕ) (g : at + indexOf b (drop at s) ≡ i + indexOf b (drop i s)) where
+  pub over : length s ≤ i → i ≡ at + indexOf b (drop at s)
+  unfolding indexOf
+  over h = sym (g ∙ rw (drop-of-length-le s {i = i} h) (omega arith))
 
-pub line-ended : (text : List ℕ) → ended text ≡ true → text ≡ body text ++ (10 ∷ [])
-unfolding ended body
-line-ended [] h = absurd (false≢true h)
-line-ended (x ∷ xs) h =
-    let last = length (x ∷ xs) - 1 in
-    let over : length (x ∷ xs) ≤ suc last = omega arith in
-    split-at (x ∷ xs) last 0 (omega arith) ∙ rw (eqb-true (getD (x ∷ xs) last 0) 10 h, drop-of-length-le (x ∷ xs) {i = suc last} over)
+  pub here : i < length s → getD s i 0 ≡ b → i ≡ at + indexOf b (drop at s)
+  unfolding indexOf
+  here h e = sym (g ∙ rw (drop-cons s i 0 h, eq-eqb (getD s i 0) b e) (omega arith))
 
--- ---- the first line of a text
+  pub on : i < length s → (getD s i 0 ≡ b → ⊥) → at + indexOf b (drop at s) ≡ (i + 1) + indexOf b (drop (i + 1) s)
+  unfolding indexOf
+  on h e = g ∙ rw (drop-cons s i 0 h, ne-eqb (getD s i 0) b e, add-one i) (omega arith)
 
--- the first line end closes it
-first-line : (l : List ℕ) → indexOf 10 l < length l → lines l ≡ take (suc (indexOf 10 l)) l ∷ lines (drop (suc (indexOf 10 l)) l)
-unfolding lines attach
-first-line = first-part 10 lines suc (λ i. refl) (λ x xs. refl) (λ x. refl)
-
--- a text with no line end is its one line
-only-line : (l : List ℕ) → 0 < length l → length l ≤ indexOf 10 l → lines l ≡ l ∷ []
-unfolding lines attach
-only-line = only-part 10 lines suc (λ i. refl) (λ x xs. refl) (λ x. refl)
-
--- the first k bytes of a text are its first line
-record First (l : List ℕ) (k : ℕ) : Type 0 where
-  some : 0 < k
-  inside : k ≤ length l
-  cut : lines l ≡ take k l ∷ lines (drop k l)
-
-first-length : {l : List ℕ} {k : ℕ} → First l k → k ≡ length (getD (lines l) 0 [])
-first-length {l} {k} f = sym (ap (λ (ls : List (List ℕ)). length (getD ls 0 [])) (f .cut) ∙ length-take-le k l (f .inside))
-
-closed : (l : List ℕ) → indexOf 10 l < length l → First l (suc (indexOf 10 l))
-closed l h = record { some = omega arith; inside = h; cut = first-line l h }
-
-unclosed : (l : List ℕ) → 0 < length l → length l ≤ indexOf 10 l → First l (length l)
-unfolding lines
-unclosed l some h = record { some = some; inside = omega arith; cut = rw (take-length l, drop-length l) (only-line l some h) }
-
-first : (l : List ℕ) → 0 < length l → First l (length (getD (lines l) 0 []))
-first l some = go (decLt (indexOf 10 l) (length l))
+pub indexOf-le : (b : ℕ) (l : List ℕ) → indexOf b l ≤ length l
+unfolding indexOf
+indexOf-le b [] = omega arith
+indexOf-le b (x ∷ xs) = go (eqb x b) (indexOf-le b xs)
   where
-    go : Dec (indexOf 10 l < length l) → First l (length (getD (lines l) 0 []))
-    go (yes h) = rw (← first-length (closed l h)) (closed l h)
-    go (no h) = let f = unclosed l some (omega arith) in rw (← first-length f) f
+    go : (t : Bool) → indexOf b xs ≤ length xs → cond t 0 (suc (indexOf b xs)) ≤ suc (length xs)
+    go true h = omega arith
+    go false h = omega arith
 
--- ---- `line_end`: e is the place of the first line end from at on
-module _ (s : List ℕ) (at e : ℕ) (found : e ≡ at + indexOf 10 (drop at s)) where
-  pub end-found : e < length s → e + 1 ≡ at + length (lineAt at s)
-  unfolding lineAt
-  end-found h = omega (arith, first-length (closed (drop at s) (omega (arith, length-drop at s))))
+-- ---- lines
 
-  pub end-none : length s ≤ e → e ≡ at + length (lineAt at s)
-  unfolding lineAt indexOf lines
-  end-none h = go (decLt at (length s))
-    where
-      go : Dec (at < length s) → e ≡ at + length (lineAt at s)
-      go (yes l) =
-          let whole = first-length (unclosed (drop at s) (omega (arith, length-drop at s)) (omega (arith, length-drop at s))) in
-          omega (arith, whole, length-drop at s, indexOf-le 10 (drop at s))
-      go (no l) =
-          let over : length s ≤ at = omega arith in
-          found ∙ rw (drop-of-length-le s {i = at} over) refl
+-- the first k bytes of a text as its first line
+abbrev cut : ℕ → List ℕ → List (List ℕ)
+cut k l = take k l ∷ lines (drop k l)
 
--- ---- a walk over the lines: the line that starts at `at` ends at `next`
-module _ (s : List ℕ) (at next : ℕ) (ends : next ≡ at + length (lineAt at s)) (more : at < length s) where
-  here : First (drop at s) (next - at)
-  unfolding lineAt
-  here =
-      let size : length (getD (lines (drop at s)) 0 []) ≡ next - at = omega arith in
-      rw (← size) (first (drop at s) (omega (arith, length-drop at s)))
-
-  line-some : at < next
-  line-some = omega (arith, here .some)
-
-  pub line-inside : next ≤ length s
-  line-inside = omega (arith, here .inside, length-drop at s)
-
-  -- less is left after a line
-  pub line-less : length s - next < length s - at
-  line-less = omega (arith, line-some, line-inside)
-
-  pub line-next : lines (drop at s) ≡ take (next - at) (drop at s) ∷ lines (drop next s)
-  line-next =
-      let sum : at + (next - at) ≡ next = omega (arith, line-some) in
-      here .cut ∙ ap (λ (l : List ℕ). take (next - at) (drop at s) ∷ lines l) (drop-drop (next - at) at s ∙ ap (λ (k : ℕ). drop k s) sum)
+-- the first line end closes the first line; where there is none, that is all of the text
+opened : (l : List ℕ) → 0 < length l → lines l ≡ cut (suc (indexOf 10 l)) l
+unfolding lines attach indexOf
+opened [] h = absurd (not-suc-le-zero h)
+opened (x ∷ xs) h = go (eqb x 10) xs (opened xs)
+  where
+    go : (t : Bool) (xs : List ℕ) → (0 < length xs → lines xs ≡ cut (suc (indexOf 10 xs)) xs)
+        → cond t ((x ∷ []) ∷ lines xs) (attach x (lines xs)) ≡ cut (suc (cond t 0 (suc (indexOf 10 xs)))) (x ∷ xs)
+    go true xs e = refl
+    go false [] e = refl
+    go false (y ∷ ys) e = ap (attach x) (e (omega arith))
 
 pub lines-over : (s : List ℕ) (at : ℕ) → length s ≤ at → lines (drop at s) ≡ []
 unfolding lines
 lines-over s at h = rw (drop-of-length-le s {i = at} h) refl
+
+-- a line ends at its end, or where the text ends
+line-length : (at : ℕ) (s : List ℕ) → length (lineAt at s) ≡ min (suc (indexOf 10 (drop at s))) (length s - at)
+unfolding lineAt
+line-length at s = go (decLe (length s) at)
+  where
+    go : Dec (length s ≤ at) → length (lineAt at s) ≡ min (suc (indexOf 10 (drop at s))) (length s - at)
+    go (yes h) = rw (lines-over s at h) (omega arith)
+    go (no h) = rw (opened (drop at s) (omega (arith, length-drop at s)), length-take, length-drop)
+
+-- ---- `line_end`: e is the place of the first line end from at on
+module _ (s : List ℕ) (at e : ℕ) (found : e ≡ at + indexOf 10 (drop at s)) where
+  pub end-found : e < length s → e + 1 ≡ at + length (lineAt at s)
+  end-found h = omega (arith, line-length at s)
+
+  pub end-none : length s ≤ e → e ≡ at + length (lineAt at s)
+  end-none h = omega (arith, line-length at s, indexOf-le 10 (drop at s), length-drop at s)
+
+-- ---- a walk over the lines: the line that starts at `at` ends at `next`
+module _ (s : List ℕ) (at next : ℕ) (ends : next ≡ at + length (lineAt at s)) (more : at < length s) where
+  pub line-inside : next ≤ length s
+  line-inside = omega (arith, line-length at s)
+
+  -- less is left after a line
+  pub line-less : length s - next < length s - at
+  line-less = omega (arith, line-length at s)
+
+  pub line-next : lines (drop at s) ≡ take (next - at) (drop at s) ∷ lines (drop next s)
+  line-next = opened l (omega (arith, length-drop at s)) ∙ go (decLe (suc (indexOf 10 l)) (length l)) ∙ rw (drop-drop (next - at) at s, sum)
+    where
+      l : List ℕ
+      l = drop at s
+
+      sum : at + (next - at) ≡ next
+      sum = omega arith
+
+      all : (k : ℕ) → length l ≤ k → cut k l ≡ l ∷ lines []
+      all k h = rw (take-all k l h, drop-of-length-le l {i = k} h)
+
+      go : Dec (suc (indexOf 10 l) ≤ length l) → cut (suc (indexOf 10 l)) l ≡ cut (next - at) l
+      go (yes h) = let e : next - at ≡ suc (indexOf 10 l) = omega (arith, line-length at s, length-drop at s) in rw e
+      go (no h) = all (suc (indexOf 10 l)) (omega arith) ∙ sym (all (next - at) (omega (arith, line-length at s, length-drop at s)))

@@ -30,9 +30,6 @@ sets-from text out at n = go (decLe (at + n) (length out))
 pub past : (out text : List ℕ) (at : ℕ) → length out ≤ at → Written out at text at out
 past out text at h = record { contents = sym (sets-past text out at h); place = omega arith }
 
-pub nothing : (out : List ℕ) (at : ℕ) → Written out at [] at out
-nothing out at = record { contents = refl; place = omega arith }
-
 pub same-length : {out text out′ : List ℕ} {at end : ℕ} → Written out at text end out′ → length out′ ≡ length out
 same-length {out} {text} {out′} {at} w = ap length (w .contents) ∙ length-sets out at text
 
@@ -46,10 +43,6 @@ then {out} {out₁} {out₂} {a} {b} {at} v w = record {
 pub then-both : {out out₁ out₂ a : List ℕ} (b c : List ℕ) {at at₁ at₂ : ℕ}
     → Written out at a at₁ out₁ → Written out₁ at₁ (b ++ c) at₂ out₂ → Written out at ((a ++ b) ++ c) at₂ out₂
 then-both {a = a} b c v w = rw (append-assoc a b c) (then v w)
-
--- what is written from the start of a buffer on ends in it
-pub end-within : {out text out′ : List ℕ} {end : ℕ} → Written out 0 text end out′ → end ≤ length out′
-end-within w = omega (arith, w .place, same-length w)
 
 -- a text that fits into a buffer from its start on stands there whole, and its end lies in the buffer
 pub whole : {out text out′ : List ℕ} {end : ℕ} → Written out 0 text end out′ → length text ≤ length out → Whole out text end out′
@@ -73,7 +66,7 @@ pub turn : {out₀ text a b out out₁ : List ℕ} {at₀ at at₁ : ℕ}
 turn g v = record { long = same-length v ∙ g .long; rest = λ w. g .rest (then v w) }
 
 pub end : {out₀ text out : List ℕ} {at₀ at : ℕ} → Writing out₀ at₀ text [] at out → Written out₀ at₀ text at out
-end {out = out} {at = at} g = g .rest (nothing out at)
+end g = g .rest record { contents = refl; place = omega arith }
 
 -- the bytes of a text one after the other: those from i on are left
 pub copy-turn : {out₀ text out out₁ : List ℕ} {at₀ at at₁ i : ℕ}

@@ -5,6 +5,7 @@ use mathlib.Core.Bool.{Bool, true, false, not, cond}
 use mathlib.Core.List.{List, [], _∷_}
 use lib.Dec.{ltb, leb, eqb}
 use lib.ListN.{length, getD, take, drop}
+use Rattle.text.specs.Write.{ascii}
 use Rattle.text.specs.declared.read.Number.{Number}
 use Rattle.text.specs.declared.read.Number.the-variants.{Value, Invalid}
 
@@ -49,7 +50,7 @@ unfoldable pub field : ℕ → List ℕ → List ℕ
 field k line = getD (fields line) k []
 
 -- the end of the field that starts at a place of a line: the place of the next comma, or the line's end
-unfoldable pub fieldEnd : ℕ → List ℕ → ℕ
+abbrev pub fieldEnd : ℕ → List ℕ → ℕ
 fieldEnd at line = at + indexOf (code ",") (drop at line)
 
 -- exactly n fields
@@ -58,13 +59,9 @@ hasFields n line = eqb (length (fields line)) n
 
 -- ---- numbers
 
--- what a digit stands for: 0 to 9, and 10 to 15 for a to f; 16 for any other byte
-unfoldable pub digit : ℕ → ℕ
-digit b =
-    cond (ltb b (code "0")) 16
-    (cond (leb b (code "9")) (b - code "0")
-    (cond (ltb b (code "a")) 16
-    (cond (leb b (code "f")) (b - code "a" + 10) 16)))
+-- what a digit stands for: its place among the sixteen; 16 for any other byte
+abbrev pub digit : ℕ → ℕ
+digit b = indexOf b (ascii "0123456789abcdef")
 
 -- the number that digits in a base stand for, read on from n
 unfoldable pub numeral : ℕ → ℕ → List ℕ → Number
@@ -80,7 +77,7 @@ upTo limit Invalid = Invalid
 unfoldable pub wellFormed : List ℕ → Bool
 wellFormed [] = false
 wellFormed (d ∷ []) = true
-wellFormed (d ∷ e ∷ ds) = not (eqb d (code "0"))
+wellFormed (d ∷ e ∷ ds) = not (eqb (digit d) 0)
 
 -- a decimal number from 0 to `limit`
 unfoldable pub decimal : ℕ → List ℕ → Number

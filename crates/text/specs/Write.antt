@@ -3,10 +3,10 @@ use Prim.Native.Nat.{ℕ, zero, suc, _+_, _-_, _/_, _%_, _^_, min}
 use Prim.Native.Char.{code}
 use Prim.Native.String.{String, [] as []ˢ, _∷_ as _∷ˢ_}
 use mathlib.Core.Path.{_≡_}
-use mathlib.Core.Bool.{Bool, true, false, cond}
+use mathlib.Core.Bool.{Bool, true, false}
 use mathlib.Core.List.{List, [], _∷_, _++_}
 use lib.Dec.{ltb}
-use lib.ListN.{length, drop}
+use lib.ListN.{length, drop, getD}
 use lib.Seq.{sets}
 
 -- the bytes of an ASCII text
@@ -16,33 +16,32 @@ ascii (c ∷ˢ s) = code c ∷ ascii s
 
 -- ---- numbers
 
--- a digit below 16: `0` to `9`, then `a` to `f`
-unfoldable pub digit : ℕ → ℕ
-digit d = cond (ltb d 10) (code "0" + d) (code "a" + (d - 10))
+-- the last hexadecimal digit of n
+abbrev pub digit : ℕ → ℕ
+digit n = getD (ascii "0123456789abcdef") (n % 16) 0
 
--- the last k digits of n in a base, the most significant first
-unfoldable pub digits : ℕ → ℕ → ℕ → List ℕ
-digits base zero n = []
-digits base (suc k) n = digit (n / base ^ k % base) ∷ digits base k n
-
--- How many decimal digits n has, counted by at most `steps` divisions; `one` says whether n has one.
+-- n in decimal, by at most `steps` divisions; `one` says whether n has one digit.
 -- (It is an argument to match on: a recursive call under a `cond` is worked out whether or not it is taken.)
-unfoldable pub placesWithin : ℕ → Bool → ℕ → ℕ
-placesWithin zero one n = 1
-placesWithin (suc steps) true n = 1
-placesWithin (suc steps) false n = suc (placesWithin steps (ltb (n / 10) 10) (n / 10))
+unfoldable pub decimalWithin : ℕ → Bool → ℕ → List ℕ
+decimalWithin zero one n = digit n ∷ []
+decimalWithin (suc steps) true n = digit n ∷ []
+decimalWithin (suc steps) false n = decimalWithin steps (ltb (n / 10) 10) (n / 10) ++ digit (n % 10) ∷ []
 
--- n divisions are always enough
-unfoldable pub places : ℕ → ℕ
-places n = placesWithin n (ltb n 10) n
-
--- n in decimal: all its digits, and no zero in front
+-- n in decimal: all its digits, and no zero in front; n divisions are always enough
 unfoldable pub decimal : ℕ → List ℕ
-decimal n = digits 10 (places n) n
+decimal n = decimalWithin n (ltb n 10) n
 
 -- a pattern of 32 bits: eight hexadecimal digits
 unfoldable pub pattern : ℕ → List ℕ
-pattern n = digits 16 8 n
+pattern n =
+    digit (n / 2 ^ 28) ∷ digit (n / 2 ^ 24) ∷ digit (n / 2 ^ 20) ∷ digit (n / 2 ^ 16)
+    ∷ digit (n / 2 ^ 12) ∷ digit (n / 2 ^ 8) ∷ digit (n / 2 ^ 4) ∷ digit n ∷ []
+
+-- ---- a refused input
+
+-- the refusal's number, and the line of the input
+unfoldable pub refused : ℕ → ℕ → List ℕ
+refused number line = ascii "refused," ++ decimal number ++ ascii "," ++ decimal line ++ ascii "\n"
 
 -- ---- a buffer
 

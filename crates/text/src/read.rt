@@ -66,19 +66,7 @@ pub fn field_end(line: &[u8], at: usize) -> usize
 fn digit(b: u8) -> u64
     ensures { λ r. ⌜ r ≡ Read.digit b ⌝ }
 {
-    if b < b'0' {
-        return 16;
-    }
-    if b <= b'9' {
-        return (b - b'0') as u64;
-    }
-    if b < b'a' {
-        return 16;
-    }
-    if b <= b'f' {
-        return (b - b'a' + 10) as u64;
-    }
-    16
+    find(b"0123456789abcdef", 0, b) as u64
 }
 
 // The number that digits in a base stand for, if it is at most `limit`. A number that passes the limit on the way stays above it.
@@ -102,28 +90,20 @@ fn numeral(text: &[u8], base: u64, limit: u32) -> Number
     Number::Value(n as u32)
 }
 
-// Some digits, and no zero in front of others.
-fn well_formed(text: &[u8]) -> bool
-    ensures { λ r. ⌜ r ≡ Read.wellFormed (now (text .entry)) ⌝ }
-{
-    if text.len() == 0 {
-        return false;
-    }
-    if text.len() == 1 {
-        return true;
-    }
-    text[0] != b'0'
-}
-
 // A decimal number from 0 to `limit`, with no zeros in front.
 pub fn decimal(text: &[u8], limit: u32) -> Number
     ensures { λ r. ⌜ r ≡ Read.decimal limit (now (text .entry)) ⌝ }
 {
-    if well_formed(text) {
-        numeral(text, 10, limit)
-    } else {
-        Number::Invalid
+    if text.len() == 0 {
+        return Number::Invalid;
     }
+    if text.len() == 1 {
+        return numeral(text, 10, limit);
+    }
+    if digit(text[0]) == 0 {
+        return Number::Invalid;
+    }
+    numeral(text, 10, limit)
 }
 
 // A bit pattern: eight hexadecimal digits in lower case.

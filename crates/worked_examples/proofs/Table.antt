@@ -17,11 +17,12 @@ use Rattle.hihat.specs.SquareNoise as SquareNoise
 use Rattle.text.specs.Read as Read
 use Rattle.text.specs.Write as Write
 use Rattle.text.specs.Write.{ascii}
+use Rattle.draw_request.specs.Requests as Requests
 use Rattle.listing.specs.Draws as Draws
 
 -- the listing of `draws` for the input `33,2` and its line end
 draws-33-2 : Draws.text (ascii "33,2\n") ≡ ascii "draw,word,bits\n1,1068833548,3e7ed46c\n2,1167334139,3e8b2836\n"
-unfolding Draws.text Draws.answer Draws.rows Draws.row Draws.readRequest Draws.fromFields Draws.readNumbers Draws.onNumber Read.ended Read.body Read.fields Read.attach Read.decimal Read.wellFormed Read.numeral Read.upTo Read.digit Write.decimal Write.digits Write.digit Write.places Write.placesWithin Write.pattern getWord getFloat toBits ofInt div round
+unfolding Draws.text Draws.answer Draws.rows Draws.row Requests.readRequest Requests.readLine Requests.both Read.ended Read.body Read.fields Read.field Read.attach Read.decimal Read.wellFormed Read.numeral Read.upTo Read.indexOf Write.decimal Write.decimalWithin Write.pattern getWord getFloat toBits ofInt div round
 draws-33-2 = refl
 
 -- words as floats, each from the state that draws it

@@ -1,21 +1,20 @@
--- The text fits into the buffer, so it stands there whole.
-use Prim.Native.Nat.{_≤_}
+-- Each arm is a line of the definition.
 use native.Mathlib.Omega.{arith}
-use lib.ListN.{length}
-use Rattle.text.proofs.Written.{whole}
-use Rattle.listing.specs.Draws.{text}
-use Rattle.listing.proofs.Lengths.{text-length}
+use Rattle.text.proofs.Written.{then}
+use Rattle.listing.specs.Draws.{answer}
+use Rattle.listing.proofs.Lengths.{listed}
 use borrow.Author.Needs.{needs}
 use Rattle.listing.proofs.draws.Statement.{statement}
 use Rattle.listing.proofs.draws.Tie as tie
 
-returns : tie.Need-returns
-unfolding text
-returns c =
-    let s = c .before .before .before .before in
-    let w = rw (c .before .read-request .ensures) at (c .put-answer .ensures) in
-    let fits : length (text (s .args .input .now)) ≤ length (s .args .out .now) = omega (arith, text-length (s .args .input .now)) in
-    whole w fits
-
 pub draws-spec : {M : Type 1} → statement M
-draws-spec = tie.close (tie.spec (λ c κs. search needs) (λ c κs. search needs) returns)
+unfolding answer
+draws-spec =
+    tie.close
+    (tie.spec (λ c κs. tt) (λ c. search needs) (λ c. search needs) (λ c κs. tt) (λ c κs. tt) (λ c. search needs) (λ c κs. tt) (λ c.
+    let header = c .before .before in
+    let arm = header .before .before .before .before in
+    listed _ (arm .before .before .read-request .ensures) (arm .state .given .1) (omega arith) (then (header .bytes .ensures) (c .put-rows .ensures)))
+    (λ c.
+    let arm = c .before .before in
+    listed _ (arm .before .before .read-request .ensures) (arm .enum-told .given .1) (omega arith) (c .put-refused .ensures)))

@@ -14,15 +14,12 @@ Inv-loop text base limit n₀ i₀ n i = Reading base limit text n i
 abbrev μ-loop : tie.MeasureT-loop
 μ-loop text base limit n₀ i₀ n i = length text - i
 
-mul-n : tie.Need-mul-n Inv-loop μ-loop
-mul-n c = let l = c .before .before .before .before in omega (arith, room (l .loop .inv) (omega arith) (l .before .before .pre .1))
-
-add-n : tie.Need-add-n Inv-loop μ-loop
-add-n c = let l = c .before .before .before .before in omega (arith, room (l .loop .inv) (omega arith) (l .before .before .pre .1))
-
 pub numeral-spec : {M : Type 1} → statement M
 numeral-spec =
     tie.close
-    (tie.spec Inv-loop μ-loop (λ c. record { within = search needs; left = refl }) (λ c. search needs) (λ c κs. search needs)
-    (λ c. search no-digit) mul-n add-n (λ c. search too-large) (λ c. search needs) (λ c. search needs) (λ c. search turn) (λ c. search needs)
+    (tie.spec Inv-loop μ-loop (λ c. record { within = search needs; left = refl }) (λ c. search needs) (λ c κs. tt)
+    (λ c. search no-digit)
+    (λ c. let l = c .before .before .before .before in omega (arith, room (l .loop .inv) (omega arith) (l .before .before .pre .1)))
+    (λ c. let l = c .before .before .before .before in omega (arith, room (l .loop .inv) (omega arith) (l .before .before .pre .1)))
+    (λ c. search too-large) (λ c. search needs) (λ c. search needs) (λ c. search turn) (λ c. search needs)
     (λ c. search end))

@@ -1,7 +1,7 @@
 -- Eight digits stand for less than 2^32, so the limit asks nothing.
 use borrow.Author.Tests.{eq-eqb, ne-eqb}
 use Rattle.text.specs.Read.{pattern}
-use Rattle.text.proofs.RoundTrip.{eight-digits}
+use Rattle.text.proofs.Numeral.{eight-digits}
 use borrow.Author.Needs.{needs}
 use Rattle.text.proofs.read.pattern.Statement.{statement}
 use Rattle.text.proofs.read.pattern.Tie as tie

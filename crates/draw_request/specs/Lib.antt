@@ -1,0 +1,2 @@
+-- The definitions of `draw_request`.
+pub mod Requests

@@ -10,7 +10,7 @@ use borrow.Author.Tests.{leb-true}
 use Rattle.text.specs.Read.{ended, body, field, hasFields, decimal, lines, lineAt}
 use Rattle.text.specs.declared.read.Number.{Number}
 use Rattle.text.specs.declared.read.Number.the-variants.{Value, Invalid}
-use Rattle.text.proofs.RoundTrip.{decimal-read}
+use Rattle.text.proofs.Numeral.{decimal-read}
 use Rattle.cue_sheet.specs.Answer.{Told, says, refused}
 use Rattle.cue_sheet.specs.CueLine.{Strike}
 use Rattle.cue_sheet.specs.Sheet.{SheetAnswer, accepted, refusedAt, onTold, headOf, readFirstLine, begin, readLine, next, judgeFrom, judge}
@@ -42,7 +42,7 @@ head-in line {head} h = go (ended line && hasFields 2 (body line)) (decimal 9600
 
     go : (t : Bool) (x y : Number) → decimal 96000 (field 0 (body line)) ≡ x → decimal 16384 (field 1 (body line)) ≡ y
         → cond t (headOf x y) (refused 7) ≡ says head → HeadIn head
-    go true (Value r) (Value l) ex ey h = from r l (leb 16000 r) refl (decimal-read 96000 r _ ex .1) (decimal-read 16384 l _ ey .1) h
+    go true (Value r) (Value l) ex ey h = from r l (leb 16000 r) refl (decimal-read 96000 r _ ex .most) (decimal-read 16384 l _ ey .most) h
     go true (Value r) Invalid ex ey h = never h
     go true Invalid y ex ey h = never h
     go false x y ex ey h = never h

@@ -9,13 +9,14 @@ use lib.Seq.{take-at}
 use lib.Ieee.{Float, binary32, toBits}
 use borrow.Author.Tests.{le-leb}
 use Rattle.cue_sheet.specs.Sheet.{SheetAnswer, accepted, refusedAt, judge, strikes}
-use Rattle.cue_sheet.proofs.Judging.{accepted-head}
+use Rattle.cue_sheet.specs.Answer.{number}
+use Rattle.cue_sheet.specs.declared.answer.SheetRefusal.{SheetRefusal}
+use Rattle.cue_sheet.specs.declared.Head.{Head}
+use Rattle.cue_sheet.proofs.FirstLines.{accepted-head}
+use Rattle.cue_sheet.proofs.Questions.{numbered}
 use Rattle.cue_render.specs.Render.{samples, inBuffer, filled}
 use Rattle.cue_render.specs.Render as Render
 use Rattle.text.proofs.Digits.{pattern-length, decimal-length}
-use Rattle.refusal.specs.Refusal.{number}
-use Rattle.refusal.specs.declared.Refusal.{Refusal}
-use Rattle.refusal.proofs.ByNumber as ByNumber
 use Rattle.text.specs.Write.{Written, Whole, ascii, refused}
 use Rattle.text.proofs.Written.{whole}
 use Rattle.listing.specs.Cues.{row, rows, answer, text}
@@ -36,42 +37,42 @@ module _ (sheet : List ℕ) (buffer : List Float) (size : List.length buffer ≡
   same-answer = go (judge sheet) refl
     where
       go : (a : SheetAnswer) → judge sheet ≡ a → inBuffer (List.length buffer) a ≡ a
-      go (accepted rate length cues) e = rw (le-leb length (List.length buffer) (omega (arith, accepted-head sheet e .longest)))
+      go (accepted head cues) e = rw (le-leb (head .length) (List.length buffer) (omega (arith, accepted-head sheet e .longest)))
       go (refusedAt number line) e = refl
 
-  module _ {rate length cues : ℕ} (known : Render.answer sheet buffer ≡ accepted rate length cues) where
-    judged : judge sheet ≡ accepted rate length cues
+  module _ {head : Head} {cues : ℕ} (known : Render.answer sheet buffer ≡ accepted head cues) where
+    judged : judge sheet ≡ accepted head cues
     judged = sym same-answer ∙ known
 
-    pub longest : length ≤ 16384
+    pub longest : head .length ≤ 16384
     longest = accepted-head sheet judged .longest
 
     module _ (exit : List Float) (rendered : exit ≡ Render.render sheet buffer) (kept : List.length exit ≡ List.length buffer) where
-      filled-is : exit ≡ samples rate length (strikes sheet) ++ drop length buffer
+      filled-is : exit ≡ samples head (strikes head sheet) ++ drop (head .length) buffer
       unfolding Render.render filled
       filled-is = rw known at rendered
 
-      samples-length : List.length (samples rate length (strikes sheet)) ≡ length
+      samples-length : List.length (samples head (strikes head sheet)) ≡ head .length
       samples-length =
           let lengths = ap List.length filled-is in
           omega (arith, longest, simp (length-append, length-drop) at lengths)
 
-      samples-are : take length exit ≡ samples rate length (strikes sheet)
-      samples-are = rw filled-is (take-at (samples rate length (strikes sheet)) (drop length buffer) length samples-length)
+      samples-are : take (head .length) exit ≡ samples head (strikes head sheet)
+      samples-are = rw filled-is (take-at (samples head (strikes head sheet)) (drop (head .length) buffer) (head .length) samples-length)
 
-      pub listed : {out out′ : List ℕ} {end : ℕ} → List.length out ≡ 245772 → Written out 0 (ascii "sample,bits\n" ++ rows 0 (take length exit)) end out′
+      pub listed : {out out′ : List ℕ} {end : ℕ} → List.length out ≡ 245772 → Written out 0 (ascii "sample,bits\n" ++ rows 0 (take (head .length) exit)) end out′
           → Whole out (text sheet) end out′
       unfolding text answer
       listed {out = out} room w =
-          let all = samples rate length (strikes sheet) in
+          let all = samples head (strikes head sheet) in
           let long = rows-length 0 all (omega (arith, longest, samples-length)) in
           let fits : List.length (ascii "sample,bits\n" ++ rows 0 all) ≤ List.length out = simp length-append (omega (arith, longest, samples-length, long)) in
           rw judged (whole (rw samples-are at w) fits)
 
-  pub refused-line : (refusal : Refusal) {line : ℕ} → Render.answer sheet buffer ≡ refusedAt (number refusal) line → line < 10000000000
+  pub refused-line : (refusal : SheetRefusal) {line : ℕ} → Render.answer sheet buffer ≡ refusedAt (number refusal) line → line < 10000000000
       → {out out′ : List ℕ} {end : ℕ} → List.length out ≡ 245772 → Written out 0 (refused (number refusal) line) end out′ → Whole out (text sheet) end out′
   unfolding text answer refused
   refused-line refusal {line = line} known below {out = out} room w =
       let fits : List.length (refused (number refusal) line) ≤ List.length out =
-      simp length-append (omega (arith, decimal-length 1 (number refusal) (omega (arith, ByNumber.refused refusal .1)), decimal-length 9 line below)) in
+      simp length-append (omega (arith, decimal-length 1 (number refusal) (omega (arith, numbered refusal .1)), decimal-length 9 line below)) in
       rw (sym same-answer ∙ known) (whole w fits)

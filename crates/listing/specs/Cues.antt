@@ -3,7 +3,7 @@ use Prim.Native.Nat.{ℕ, suc}
 use mathlib.Core.List.{List, [], _∷_, _++_}
 use lib.Ieee.{Float, binary32, toBits}
 use Rattle.cue_render.specs.Render.{samples}
-use Rattle.cue_sheet.specs.Sheet.{SheetAnswer, accepted, refusedAt, Strike, judge, strikes}
+use Rattle.cue_sheet.specs.Sheet.{SheetAnswer, accepted, refusedAt, judge, strikes}
 use Rattle.text.specs.Write as Write
 use Rattle.text.specs.Write.{ascii}
 
@@ -16,9 +16,9 @@ unfoldable pub rows : ℕ → List Float → List ℕ
 rows n [] = []
 rows n (x ∷ xs) = row n x ++ rows (suc n) xs
 
-unfoldable pub answer : SheetAnswer → List Strike → List ℕ
-answer (accepted rate length cues) strikes = ascii "sample,bits\n" ++ rows 0 (samples rate length strikes)
-answer (refusedAt number line) strikes = Write.refused number line
+unfoldable pub answer : SheetAnswer → List ℕ → List ℕ
+answer (accepted head cues) sheet = ascii "sample,bits\n" ++ rows 0 (samples head (strikes head sheet))
+answer (refusedAt number line) sheet = Write.refused number line
 
 unfoldable pub text : List ℕ → List ℕ
-text sheet = answer (judge sheet) (strikes sheet)
+text sheet = answer (judge sheet) sheet

@@ -2,12 +2,10 @@
 use cue_sheet::Judgment;
 use draw_request::Request;
 use random::Draw;
-use refusal::Refusal;
 ghost use mathlib.Core.List.{[], _∷_, _++_};
 ghost use lib.Ieee.{binary32, toBits};
 ghost use Rattle.text.specs.Write as Write;
 ghost use Rattle.text.specs.Write.{Written, Whole};
-ghost use Rattle.refusal.specs.Refusal.{number};
 ghost use Rattle.listing.specs.Cues as Cues;
 ghost use Rattle.listing.specs.Draws as Draws;
 
@@ -17,13 +15,6 @@ fn put_pattern(out: &mut [u8], at: usize, x: f32, after: u8) -> usize
 {
     let end = text::write::pattern(out, at, ieee754::to_bits(x));
     text::write::byte(out, end, after)
-}
-
-// The line that a refused input gets, alone.
-fn put_refused(out: &mut [u8], refusal: Refusal, line: u64) -> usize
-    ensures { λ r. ⌜ Written (now (out .entry)) 0 (Write.refused (number refusal) line) r (now (out .exit)) ⌝ }
-{
-    text::write::refused(out, 0, refusal.number(), line)
 }
 
 fn put_row(out: &mut [u8], at: usize, number: u32, draw: Draw) -> usize
@@ -61,7 +52,7 @@ pub fn draws(input: &[u8], out: &mut [u8; 25015]) -> usize
             let end = text::write::bytes(out, 0, b"draw,word,bits\n");
             put_rows(out, end, state, count)
         }
-        Request::Refused => put_refused(out, Refusal::CueLine, 1),
+        Request::Refused => text::write::refused(out, 0, 8, 1),
     }
 }
 
@@ -99,11 +90,9 @@ pub fn cues(sheet: &[u8], out: &mut [u8; 245772]) -> usize
 {
     let mut samples = [0.0f32; 16384];
     match cue_render::render(sheet, &mut samples) {
-        Judgment::Accepted {
-            rate: _,
-            length,
-            cues: _,
-        } => put_listing(out, &samples[..length as usize]),
-        Judgment::Refused { refusal, line } => put_refused(out, refusal, line as u64),
+        Judgment::Accepted { head, cues: _ } => put_listing(out, &samples[..head.length as usize]),
+        Judgment::Refused { refusal, line } => {
+            text::write::refused(out, 0, refusal.number(), line as u64)
+        }
     }
 }

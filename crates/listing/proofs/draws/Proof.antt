@@ -17,4 +17,4 @@ draws-spec =
     listed _ (arm .before .before .read-request .ensures) (arm .state .given .1) (omega arith) (then (header .bytes .ensures) (c .put-rows .ensures)))
     (λ c.
     let arm = c .before .before in
-    listed _ (arm .before .before .read-request .ensures) (arm .enum-told .given .1) (omega arith) (c .put-refused .ensures)))
+    listed _ (arm .before .before .read-request .ensures) (arm .enum-told .given .1) (omega arith) (c .refused .ensures)))

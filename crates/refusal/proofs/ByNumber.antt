@@ -8,31 +8,24 @@ use lib.ListN.{getD}
 use lib.Ieee.{Float}
 use borrow.Author.Tests.{leb-true}
 use Rattle.refusal.specs.declared.Refusal.{Refusal}
-use Rattle.refusal.specs.declared.Refusal.the-variants.{SampleRate, BlockLength, Frequency, Accent, Knob, FirstLine, CueLine, CueStart, CueCount, BufferLength}
+use Rattle.refusal.specs.declared.Refusal.the-variants.{SampleRate, BlockLength, Frequency, Accent, Knob}
 use Rattle.refusal.specs.declared.Answer.{Answer}
 use Rattle.refusal.specs.declared.Answer.the-variants.{Accepted, Refused}
 use Rattle.refusal.specs.Refusal.{number, answerNumber, unlessRefused, ask, isSampleRate, isBlockLength}
 
--- the refusal of a number from 1 to 11, but for 6
+-- a refusal's number is not 0, so an answer of number 0 is an accepted one; the highest is 5
 refusalOf : ℕ → Refusal
-refusalOf n =
-    getD (Knob ∷ SampleRate ∷ BlockLength ∷ Frequency ∷ Accent ∷ Knob ∷ Knob ∷ FirstLine ∷ CueLine ∷ CueStart ∷ CueCount ∷ BufferLength ∷ []) n Knob
+refusalOf n = getD (SampleRate ∷ SampleRate ∷ BlockLength ∷ Frequency ∷ Accent ∷ Knob ∷ []) n Knob
 
-numbered : (r : Refusal) → (refusalOf (number r) ≡ r) × ((0 < number r) × (number r ≤ 11))
+numbered : (r : Refusal) → (refusalOf (number r) ≡ r) × ((0 < number r) × (number r ≤ 5))
 unfolding refusalOf
 numbered SampleRate = (refl, omega arith)
 numbered BlockLength = (refl, omega arith)
 numbered Frequency = (refl, omega arith)
 numbered Accent = (refl, omega arith)
 numbered Knob = (refl, omega arith)
-numbered FirstLine = (refl, omega arith)
-numbered CueLine = (refl, omega arith)
-numbered CueStart = (refl, omega arith)
-numbered CueCount = (refl, omega arith)
-numbered BufferLength = (refl, omega arith)
 
--- a refusal's number is not 0, so an answer of number 0 is an accepted one; the highest is 11
-pub refused : (r : Refusal) → (0 < number r) × (number r ≤ 11)
+pub refused : (r : Refusal) → (0 < number r) × (number r ≤ 5)
 refused r = numbered r .1
 
 -- no two answers share a number, so the contracts, which speak of numbers, determine the answer

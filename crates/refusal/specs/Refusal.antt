@@ -1,4 +1,4 @@
--- Refusals, their numbers, and the questions that several routines ask. Definitions only.
+-- Refusals of a voice's call, their numbers, what a call gives, and the questions. Definitions only.
 use Prim.Native.Nat.{ℕ, zero, suc, _^_}
 use mathlib.Core.Bool.{Bool, true, false, _&&_}
 use mathlib.Core.List.{List}
@@ -6,22 +6,17 @@ use lib.Dec.{leb}
 use lib.Ieee.{Float, binary32, le, round}
 use Rattle.ieee754.specs.Single.{decimal}
 use Rattle.refusal.specs.declared.Refusal.{Refusal}
-use Rattle.refusal.specs.declared.Refusal.the-variants.{SampleRate, BlockLength, Frequency, Accent, Knob, FirstLine, CueLine, CueStart, CueCount, BufferLength}
+use Rattle.refusal.specs.declared.Refusal.the-variants.{SampleRate, BlockLength, Frequency, Accent, Knob}
 use Rattle.refusal.specs.declared.Answer.{Answer}
 use Rattle.refusal.specs.declared.Answer.the-variants.{Accepted, Refused}
 
--- the number that a user sees; 6 is retired and never given to another question
+-- the number that a user sees; 6, once a pitch past the tables, is retired and never given to another question, and those from 7 on are the sheet's
 abbrev pub number : Refusal → ℕ
 number SampleRate = 1
 number BlockLength = 2
 number Frequency = 3
 number Accent = 4
 number Knob = 5
-number FirstLine = 7
-number CueLine = 8
-number CueStart = 9
-number CueCount = 10
-number BufferLength = 11
 
 -- the number of an answer, 0 for an accepted call
 abbrev pub answerNumber : Answer → ℕ

@@ -1,7 +1,9 @@
--- The question by its definition, and what `ask` makes of it.
-use borrow.Author.Needs.{needs}
+-- The question by its bounds, which agree with the definition's by computing.
+use lib.Ieee.{round, ofBits}
+use Rattle.refusal.specs.Refusal.{isUnit}
 use Rattle.refusal.proofs.ask_accent.Statement.{statement}
 use Rattle.refusal.proofs.ask_accent.Tie as tie
 
 pub ask-accent-spec : {M : Type 1} → statement M
-ask-accent-spec = tie.close (tie.spec (λ c κs. search needs) (λ c κs. search needs) (λ c. rw (c .ask .ensures, c .before .is-unit .ensures)))
+unfolding isUnit round ofBits
+ask-accent-spec = tie.close (tie.spec (λ c κs. tt) (λ c κs. tt) (λ c. rw (c .ask .ensures, c .before .within .ensures)))

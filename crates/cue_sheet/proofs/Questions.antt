@@ -23,7 +23,7 @@ use Rattle.cue_sheet.specs.declared.line.Fields.{Fields}
 
 -- a refusal's number is not 0; the highest is 11
 pub numbered : (r : SheetRefusal) → (0 < number r) × (number r ≤ 11)
-numbered (Knobs r) = ByNumber.refused r
+numbered (Knobs r) = let b = ByNumber.refused r in (b .0, omega (arith, b .1))
 numbered FirstLine = omega arith
 numbered CueLine = omega arith
 numbered CueStart = omega arith

@@ -26,7 +26,7 @@ returns c =
     let a = s .args in
     let play = played .play .ensures in
     let size = part-length (now (a .out)) (a .from) (a .to) (s .pre .0) (s .pre .1) in
-    (rw (play .0, size), rw (play .1 .0, size, post-is (a .from) (a .to) (now (a .out)) (s .pre .0)))
+    (rw (play .0, size), rw (play .1, size, post-is (a .from) (a .to) (now (a .out)) (s .pre .0)))
 
 pub render-segment-spec : {M : Type 1} → statement M
 render-segment-spec =

@@ -14,14 +14,13 @@ use borrow.Author.Tests.{le-leb}
 use Rattle.ieee754.specs.Single.{decimal}
 use Rattle.block.specs.Block as Block
 use Rattle.block.proofs.Blocks.{after-keeps}
-use Rattle.refusal.specs.Refusal.{Noisy, noisy, isSampleRate, isUnit, isBassDecay, within, unlessRefused}
+use Rattle.refusal.specs.Refusal.{Noisy, noisy, Call, isSampleRate, isUnit, isBassDecay, within, unlessRefused}
 use Rattle.analog_bass_drum.specs.AnalogBassDrum as AnalogBassDrum
 use Rattle.analog_snare_drum.specs.AnalogSnareDrum as AnalogSnareDrum
 use Rattle.synthetic_snare_drum.specs.SyntheticSnareDrum as SyntheticSnareDrum
 use Rattle.synthetic_snare_drum.specs.declared.SyntheticSnareDrum.{SyntheticSnareDrum as SyntheticSnare}
 use Rattle.synthetic_snare_drum.specs.declared.Knobs.{Knobs as SyntheticSnareKnobs}
 use Rattle.hihat.specs.Hihat as hihat
-use Rattle.hihat.specs.declared.Hihat.{Hihat as HihatVoice}
 use Rattle.hihat.proofs.Rate.{rate-kept}
 use Rattle.hihat.specs.declared.VcaType.the-variants.{Swing}
 use Rattle.cue_sheet.specs.Answer.{Told, says, refused}
@@ -33,7 +32,7 @@ use Rattle.cue_sheet.specs.declared.line.Cue.{Cue}
 use Rattle.cue_sheet.specs.declared.line.Cue.the-variants.{Bass, Snare, SyntheticSnare as Synthetic, Hihat}
 use Rattle.cue_sheet.proofs.Questions.{KnobsIn, KnobsOf, cue-passed}
 use Rattle.cue_render.specs.Part.{after, bassCall, snareCall, syntheticSnareCall, hihatCall}
-use Rattle.cue_render.specs.Kit.{unstruck, start, afterSegment, strike}
+use Rattle.cue_render.specs.Kit.{unstruck, start, syntheticIn, hihatIn, afterSegment, strike}
 use Rattle.cue_render.specs.Calls.{SegmentAccepted, SegmentsAccepted, NoneRefused}
 use Rattle.cue_render.specs.declared.part.Playing.{Playing}
 use Rattle.cue_render.specs.declared.kit.Kit.{Kit}
@@ -75,33 +74,30 @@ synthetic-rate : (s : Noisy SyntheticSnare) (trigger : Bool) (k : SyntheticSnare
 synthetic-rate s trigger k out = kept s k (List.length out) (SyntheticSnareDrum.renderRefusal (syntheticRate s) k (List.length out)) trigger
 
 -- ---- a kit that no voice of it refuses
-record Playings (k : Kit) : Type 0 where
+record Ready (k : Kit) : Type 0 where
   b : Passed isBassDecay (k .b)
   s : Passed isUnit (k .s)
   y : Passed isUnit (k .y)
   h : Passed isUnit (k .h)
-
-record Rates (k : Kit) : Type 0 where
-  synthetic : isSampleRate (k .«synthetic_snare» .«sample_rate_hz») ≡ true
-  hihat : isSampleRate (k .hihat .«sample_rate») ≡ true
+  rates : (isSampleRate (k .«synthetic_snare» .«sample_rate_hz») ≡ true) × (isSampleRate (k .hihat .«sample_rate») ≡ true)
 
 zero-unit : isUnit (decimal 0 0) ≡ true
 unfolding isUnit within le round
 zero-unit = refl
 
-ready-accepted : (k : Kit) (n : ℕ) → n ≤ 16384 → Playings k → Rates k → SegmentAccepted k n
+ready-accepted : (k : Kit) (n : ℕ) → n ≤ 16384 → Ready k → SegmentAccepted k n
 unfolding bassCall snareCall syntheticSnareCall hihatCall AnalogBassDrum.renderRefusal AnalogSnareDrum.renderRefusal SyntheticSnareDrum.renderRefusal hihat.renderRefusal
-ready-accepted k n short p r =
+ready-accepted k n short r =
     let size = le-leb n 16384 short in
     record {
-      bass = λ struck. let q = p .b struck in rw (silence-length n, size, q .frequency, q .accent-in, q .a-in, q .decay-in, q .c-in, zero-unit);
-      snare = λ struck noise. let q = p .s struck in rw (silence-length n, size, q .frequency, q .accent-in, q .a-in, q .decay-in, q .c-in);
+      bass = λ struck. let q = r .b struck in rw (silence-length n, size, q .frequency, q .accent-in, q .a-in, q .decay-in, q .c-in, zero-unit);
+      snare = λ struck noise. let q = r .s struck in rw (silence-length n, size, q .frequency, q .accent-in, q .a-in, q .decay-in, q .c-in);
       synthetic-snare =
-          λ struck noise. let q = p .y struck in
-          rw (silence-length n, r .synthetic, size, q .frequency, q .accent-in, q .a-in, q .decay-in, q .c-in);
+          λ struck noise. let q = r .y struck in
+          rw (silence-length n, r .rates .0, size, q .frequency, q .accent-in, q .a-in, q .decay-in, q .c-in);
       hihat =
-          λ struck noise. let q = p .h struck in
-          rw (silence-length n, r .hihat, size, q .frequency, q .accent-in, q .a-in, q .decay-in, q .c-in);
+          λ struck noise. let q = r .h struck in
+          rw (silence-length n, r .rates .1, size, q .frequency, q .accent-in, q .a-in, q .decay-in, q .c-in);
     }
 
 -- ---- it starts so, and stays so
@@ -109,45 +105,38 @@ unstruck-passed : (decays : Float → Bool) → Passed decays unstruck
 unfolding unstruck
 unstruck-passed decays struck = absurd (true≢false (sym struck))
 
-start-playings : (rate : ℕ) → Playings (start rate)
-unfolding start
-start-playings rate = record { b = unstruck-passed _; s = unstruck-passed _; y = unstruck-passed _; h = unstruck-passed _ }
-
-start-rates : (rate : ℕ) → isSampleRate (ofInt binary32 (pos rate)) ≡ true → Rates (start rate)
+start-ready : (rate : ℕ) → isSampleRate (ofInt binary32 (pos rate)) ≡ true → Ready (start rate)
 unfolding start SyntheticSnareDrum.initialized hihat.initialized
-start-rates rate h = record { synthetic = rw h h; hihat = rw h h }
+start-ready rate h = record { b = unstruck-passed _; s = unstruck-passed _; y = unstruck-passed _; h = unstruck-passed _; rates = rw h (h, h) }
 
-strike-playings : (k : Kit) (cue : Cue) → KnobsOf cue → Playings k → Playings (strike k cue)
+strike-ready : (k : Kit) (cue : Cue) → KnobsOf cue → Ready k → Ready (strike k cue)
 unfolding strike
-strike-playings k (Bass accent f0 tone decay attackFmAmount) knobs p = record { b = λ struck. knobs; s = p .s; y = p .y; h = p .h }
-strike-playings k (Snare accent f0 tone decay snappy) knobs p = record { b = p .b; s = λ struck. knobs; y = p .y; h = p .h }
-strike-playings k (Synthetic accent f0 fmAmount decay snappy) knobs p = record { b = p .b; s = p .s; y = λ struck. knobs; h = p .h }
-strike-playings k (Hihat accent f0 tone decay noisiness) knobs p = record { b = p .b; s = p .s; y = p .y; h = λ struck. knobs }
+strike-ready k (Bass accent f0 tone decay attackFmAmount) knobs r = record { b = λ struck. knobs; s = r .s; y = r .y; h = r .h; rates = r .rates }
+strike-ready k (Snare accent f0 tone decay snappy) knobs r = record { b = r .b; s = λ struck. knobs; y = r .y; h = r .h; rates = r .rates }
+strike-ready k (Synthetic accent f0 fmAmount decay snappy) knobs r = record { b = r .b; s = r .s; y = λ struck. knobs; h = r .h; rates = r .rates }
+strike-ready k (Hihat accent f0 tone decay noisiness) knobs r = record { b = r .b; s = r .s; y = r .y; h = λ struck. knobs; rates = r .rates }
 
-strike-rates : (k : Kit) (cue : Cue) → Rates k → Rates (strike k cue)
-unfolding strike
-strike-rates k (Bass accent f0 tone decay attackFmAmount) r = record { synthetic = r .synthetic; hihat = r .hihat }
-strike-rates k (Snare accent f0 tone decay snappy) r = record { synthetic = r .synthetic; hihat = r .hihat }
-strike-rates k (Synthetic accent f0 fmAmount decay snappy) r = record { synthetic = r .synthetic; hihat = r .hihat }
-strike-rates k (Hihat accent f0 tone decay noisiness) r = record { synthetic = r .synthetic; hihat = r .hihat }
+-- a rate that the call keeps
+rate-after : {Voice : Type 0} (rate : Noisy Voice → Float) (p : Playing) (call : Call (Noisy Voice)) (v : Noisy Voice)
+    → rate (call .state) ≡ rate v → rate (after p call v) ≡ rate v
+unfolding after
+rate-after rate p call v same = go (p .struck)
+  where
+    go : (t : Bool) → rate (cond t (call .state) v) ≡ rate v
+    go true = same
+    go false = refl
 
-either : {A : Type 0} (P : A → Type 0) (t : Bool) (x y : A) → P x → P y → P (cond t x y)
-either P true x y p q = p
-either P false x y p q = q
-
-segment-playings : (k : Kit) (n : ℕ) → Playings k → Playings (afterSegment k n)
-unfolding afterSegment
-segment-playings k n p = record { b = p .b; s = p .s; y = p .y; h = p .h }
-
-segment-rates : (k : Kit) (n : ℕ) → Rates k → Rates (afterSegment k n)
-unfolding afterSegment after syntheticSnareCall hihatCall
-segment-rates k n r = record {
-  synthetic =
-      either (λ (v : Noisy SyntheticSnare). isSampleRate (syntheticRate v) ≡ true) (k .y .struck) _ _
-      (ap isSampleRate (synthetic-rate _ (k .y .trigger) _ (silence n)) ∙ r .synthetic) (r .synthetic);
-  hihat =
-      either (λ (v : Noisy HihatVoice). isSampleRate (v .voice .«sample_rate») ≡ true) (k .h .struck) _ _
-      (ap isSampleRate (rate-kept _ (k .h .trigger) Swing _ (silence n)) ∙ r .hihat) (r .hihat);
+segment-ready : (k : Kit) (n : ℕ) → Ready k → Ready (afterSegment k n)
+unfolding afterSegment syntheticSnareCall hihatCall
+segment-ready k n r = record {
+  b = r .b;
+  s = r .s;
+  y = r .y;
+  h = r .h;
+  rates = (
+    ap isSampleRate (rate-after syntheticRate (k .y) _ (syntheticIn k n) (synthetic-rate _ (k .y .trigger) _ (silence n))) ∙ r .rates .0,
+    ap isSampleRate (rate-after (λ v. v .voice .«sample_rate») (k .h) _ (hihatIn k n) (rate-kept _ (k .h .trigger) Swing _ (silence n))) ∙ r .rates .1,
+  );
 }
 
 -- ---- the cues of a sheet start below its length, and their knobs have passed their questions
@@ -165,13 +154,13 @@ cues-in length w (line ∷ ls) h = go (readLine w line) refl (cues-in length (ne
     go (refused n) e ih = ih
 
 -- ---- the sheet
-segments-ready : (length : ℕ) → length ≤ 16384 → (k : Kit) (from : ℕ) (ss : List Strike) → Playings k → Rates k → CuesIn length ss → SegmentsAccepted length k from ss
+segments-ready : (length : ℕ) → length ≤ 16384 → (k : Kit) (from : ℕ) (ss : List Strike) → Ready k → CuesIn length ss → SegmentsAccepted length k from ss
 unfolding SegmentsAccepted CuesIn
-segments-ready length short k from [] p r cues = ready-accepted k (length - from) (omega arith) p r
-segments-ready length short k from (s ∷ ss) p r cues =
+segments-ready length short k from [] r cues = ready-accepted k (length - from) (omega arith) r
+segments-ready length short k from (s ∷ ss) r cues =
     let n = s .start - from in (
-      ready-accepted k n (omega (arith, cues .0)) p r,
-      segments-ready length short _ (s .start) ss (strike-playings _ (s .cue) (cues .1) (segment-playings k n p)) (strike-rates _ (s .cue) (segment-rates k n r)) (cues .2),
+      ready-accepted k n (omega (arith, cues .0)) r,
+      segments-ready length short _ (s .start) ss (strike-ready _ (s .cue) (cues .1) (segment-ready k n r)) (cues .2),
     )
 
 pub never-refused : (sheet : List ℕ) → NoneRefused sheet
@@ -180,6 +169,5 @@ never-refused sheet head cues h =
     let known = accepted-head sheet h in
     let in-range = sheet-rate head known in (
       record { bass = rw in-range; snare = rw in-range; synthetic-snare = rw in-range; hihat = rw in-range },
-      segments-ready (head .length) (known .longest) (start (head .rate)) 0 (strikes head sheet) (start-playings (head .rate)) (start-rates (head .rate) in-range)
-          (cues-in (head .length) _ _ refl),
+      segments-ready (head .length) (known .longest) _ 0 (strikes head sheet) (start-ready (head .rate) in-range) (cues-in (head .length) _ _ refl),
     )

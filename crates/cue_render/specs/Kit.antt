@@ -23,15 +23,9 @@ use Rattle.cue_render.specs.declared.kit.Kit.{Kit}
 
 -- ---- the start: all voices from init, none of them struck, and the noise state at 33
 unfoldable pub unstruck : Playing
-unstruck = record {
-  struck = false;
-  trigger = false;
-  accent = decimal 0 0;
-  f0 = decimal 0 0;
-  a = decimal 0 0;
-  decay = decimal 0 0;
-  c = decimal 0 0;
-}
+unstruck =
+    let zero = decimal 0 0 in
+    record { struck = false; trigger = false; accent = zero; f0 = zero; a = zero; decay = zero; c = zero }
 
 -- the sample rate is the f32 nearest to the sheet's
 unfoldable pub start : ℕ → Kit
@@ -49,25 +43,18 @@ start rate =
       h = unstruck;
     }
 
--- ---- a segment of n samples: the noise state passes from each of the voices that draw noise to the next
+-- ---- a segment of n samples
+
+-- the noise state passes from each of the voices that draw noise to the next
 module _ (k : Kit) (n : ℕ) where
   abbrev pub snareIn : Noisy SnareVoice
   snareIn = noisy (k .snare) (k .noise)
 
-  abbrev pub snareOut : Noisy SnareVoice
-  snareOut = after (k .s) (snareCall snareIn (k .s) n) snareIn
-
   abbrev pub syntheticIn : Noisy SyntheticSnareVoice
-  syntheticIn = noisy (k .«synthetic_snare») (snareOut .noise)
-
-  abbrev pub syntheticOut : Noisy SyntheticSnareVoice
-  syntheticOut = after (k .y) (syntheticSnareCall syntheticIn (k .y) n) syntheticIn
+  syntheticIn = noisy (k .«synthetic_snare») (after (k .s) (snareCall snareIn (k .s) n) snareIn .noise)
 
   abbrev pub hihatIn : Noisy HihatVoice
-  hihatIn = noisy (k .hihat) (syntheticOut .noise)
-
-  abbrev pub hihatOut : Noisy HihatVoice
-  hihatOut = after (k .h) (hihatCall hihatIn (k .h) n) hihatIn
+  hihatIn = noisy (k .hihat) (after (k .y) (syntheticSnareCall syntheticIn (k .y) n) syntheticIn .noise)
 
   -- each sample is 0.0 plus the struck voices in the order b, s, y, h
   unfoldable pub segment : List Float
@@ -79,17 +66,19 @@ module _ (k : Kit) (n : ℕ) where
       (silence n))))
 
   unfoldable pub afterSegment : Kit
-  afterSegment = record {
-    bass = after (k .b) (bassCall (k .bass) (k .b) n) (k .bass);
-    snare = snareOut .voice;
-    «synthetic_snare» = syntheticOut .voice;
-    hihat = hihatOut .voice;
-    noise = hihatOut .noise;
-    b = held (k .b);
-    s = held (k .s);
-    y = held (k .y);
-    h = held (k .h);
-  }
+  afterSegment =
+      let h = after (k .h) (hihatCall hihatIn (k .h) n) hihatIn in
+      record {
+        bass = after (k .b) (bassCall (k .bass) (k .b) n) (k .bass);
+        snare = after (k .s) (snareCall snareIn (k .s) n) snareIn .voice;
+        «synthetic_snare» = after (k .y) (syntheticSnareCall syntheticIn (k .y) n) syntheticIn .voice;
+        hihat = h .voice;
+        noise = h .noise;
+        b = held (k .b);
+        s = held (k .s);
+        y = held (k .y);
+        h = held (k .h);
+      }
 
 -- ---- the kit with the voice of a cue struck; the others go on as they are
 abbrev pub playing : Kit → Playing → Playing → Playing → Playing → Kit

@@ -13,9 +13,8 @@ returns-2 c =
     let added = c .before .before in
     let rendered = added .before .before .before .before .before in
     let cleared = rendered .before .before .before .before in
-    let test = cleared .before .before in
-    let start = test .before .before .before .before in
-    let struck = not-false (start .args .p .struck) (test .if1 .left) in
+    let start = cleared .before .before .before .before .before .before in
+    let struck = not-false (start .args .p .struck) (cleared .before .before .if1 .left) in
     let render = rw (cleared-scratch _ _ _ (start .pre) (cleared .clear .ensures)) at (rendered .render .ensures) in
     (rw (render .1 .0, render .1 .1 .0, struck), rw (added .add-to .ensures, render .1 .1 .1, struck))
 

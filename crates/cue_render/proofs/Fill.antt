@@ -51,10 +51,6 @@ pub silence-at : (n i : ℕ) → i < n → getD (silence n) i nan ≡ ofBits bin
 unfolding silence ofBits round
 silence-at n i h = getD-replicate n i _ nan h
 
--- a scratch as long as a segment of n samples, once it is cleared
-pub cleared-scratch : (scratch : List Float) (m n : ℕ) → m ≡ n → scratch ≡ silence m → scratch ≡ silence n
-cleared-scratch scratch m n long e = e ∙ ap silence long
-
 -- ---- sums
 pub added-length : (xs ys : List Float) → length (added xs ys) ≡ length xs
 unfolding added

@@ -9,35 +9,22 @@ use Rattle.cue_render.proofs.NeverRefused.{never-refused}
 use Rattle.cue_render.proofs.render.Statement.{statement}
 use Rattle.cue_render.proofs.render.Tie as tie
 
-returns : tie.Need-returns
+pub render-spec : {M : Type 1} → statement M
 unfolding answer inBuffer render filled
-returns c =
-    let arm = c .before .before .before in
+render-spec =
+    tie.close
+    (tie.spec (λ c κs. tt) (λ c. search needs) (λ c. search needs) (λ c. search needs)
+    (λ c. let arm = c .before .before .before in
     let known = sym (arm .before .before .judge .ensures) ∙ ap Sheet.answer (arm .head .given .1) in
-    rw (known, lt-leb _ _ (c .if1 .taken)) (refl, (refl, never-refused _))
-
-render-lines-requires : tie.Need-render-lines-requires
-render-lines-requires c κs =
-    let arm = c .before .before .before .before .before in
-    (search needs, accepted-head _ (sym (arm .before .before .judge .ensures) ∙ ap Sheet.answer (arm .head .given .1)) .longest)
-
-returns-2 : tie.Need-returns-2
-unfolding answer inBuffer render filled
-returns-2 c =
-    let arm = c .before in
-    rw (sym (arm .before .before .judge .ensures) ∙ ap Sheet.answer (arm .refusal .given .1)) (refl, (refl, never-refused _))
-
-returns-3 : tie.Need-returns-3
-unfolding answer inBuffer render filled
-returns-3 c =
-    let rendered = c .before .before .before in
+    rw (known, lt-leb _ _ (c .if1 .taken)) (refl, (refl, never-refused _)))
+    (λ c. search needs)
+    (λ c κs. let arm = c .before .before .before .before .before in
+    (search needs, accepted-head _ (sym (arm .before .before .judge .ensures) ∙ ap Sheet.answer (arm .head .given .1)) .longest))
+    (λ c. let arm = c .before in
+    rw (sym (arm .before .before .judge .ensures) ∙ ap Sheet.answer (arm .refusal .given .1)) (refl, (refl, never-refused _)))
+    (λ c. search needs)
+    (λ c. let rendered = c .before .before .before in
     let test = rendered .before .before .before in
     let arm = test .before .before .before in
     let known = sym (arm .before .before .judge .ensures) ∙ ap Sheet.answer (arm .head .given .1) in
-    rw (known, le-leb _ _ (test .if1 .left)) (refl, (rendered .render-lines .ensures, never-refused _))
-
-pub render-spec : {M : Type 1} → statement M
-render-spec =
-    tie.close
-    (tie.spec (λ c κs. tt) (λ c. search needs) (λ c. search needs) (λ c. search needs) returns (λ c. search needs) render-lines-requires
-    returns-2 (λ c. search needs) returns-3)
+    rw (known, le-leb _ _ (test .if1 .left)) (refl, (rendered .render-lines .ensures, never-refused _))))

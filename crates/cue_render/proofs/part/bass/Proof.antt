@@ -4,24 +4,19 @@ use borrow.Author.Tests.{not-true, not-false}
 use mathlib.Core.Path.{refl}
 use lib.Ieee.{round, ofBits}
 use Rattle.cue_render.specs.Part.{into, after, bassCall}
-use Rattle.cue_render.proofs.Fill.{cleared-scratch}
 use Rattle.cue_render.proofs.part.bass.Statement.{statement}
 use Rattle.cue_render.proofs.part.bass.Tie as tie
 
-returns-2 : tie.Need-returns-2
+pub bass-spec : {M : Type 1} → statement M
 unfolding into after bassCall round ofBits
-returns-2 c =
-    let added = c .before .before .before in
+bass-spec =
+    tie.close
+    (tie.spec (λ c. rw (not-true (c .before .before .before .before .args .p .struck) (c .if1 .taken)) (refl, refl)) (λ c κs. tt) (λ c κs. tt)
+    (λ c κs. search needs) (λ c. search needs) (λ c. search needs)
+    (λ c. let added = c .before .before .before in
     let rendered = added .before .before .before .before .before in
     let cleared = rendered .before .before .before .before in
     let start = cleared .before .before .before .before .before .before in
     let struck = not-false (start .args .p .struck) (cleared .before .before .if1 .left) in
-    let render = rw (cleared-scratch _ _ _ (start .pre) (cleared .clear .ensures)) at (rendered .render .ensures) in
-    (rw (render .1 .0, struck), rw (added .add-to .ensures, render .1 .1, struck))
-
-pub bass-spec : {M : Type 1} → statement M
-unfolding into after
-bass-spec =
-    tie.close
-    (tie.spec (λ c. rw (not-true (c .before .before .before .before .args .p .struck) (c .if1 .taken)) (refl, refl)) (λ c κs. tt) (λ c κs. tt)
-    (λ c κs. search needs) (λ c. search needs) (λ c. search needs) returns-2)
+    let render = rw (cleared .clear .ensures, start .pre) at (rendered .render .ensures) in
+    (rw (render .1 .0, struck), rw (added .add-to .ensures, render .1 .1, struck))))

@@ -22,50 +22,35 @@ cleared b = b .before .before .before .before .before
 abbrev hihat : tie.After-held4 → tie.After-hihat
 hihat c = c .before .before .before .before .before .before .before .before .before .before .before
 
-synthetic-snare-requires : tie.Need-synthetic-snare-requires
-synthetic-snare-requires c κs =
-    let s = c .before .before .before .before .before .before in
+pub play-spec : {M : Type 1} → statement M
+play-spec =
+    tie.close
+    (tie.spec (λ c κs. tt) (λ c κs. search needs) (λ c κs. search needs)
+    (λ c κs. let s = c .before .before .before .before .before .before in
     let b = bass s in
     let z = cleared b in
-    s .snare .kept .1 .0 ∙ b .bass .kept .1 .0 ∙ z .before .before .before .before .pre ∙ sym (s .snare .kept .0 ∙ b .bass .kept .0 ∙ z .clear .kept .0)
-
-hihat-requires : tie.Need-hihat-requires
-hihat-requires c κs =
-    let y = c .before .before .before .before .before .before in
+    s .snare .kept .1 .0 ∙ b .bass .kept .1 .0 ∙ z .before .before .before .before .pre ∙ sym (s .snare .kept .0 ∙ b .bass .kept .0 ∙ z .clear .kept .0))
+    (λ c κs. let y = c .before .before .before .before .before .before in
     let s = snare y in
     let b = bass s in
     let z = cleared b in
     y .synthetic-snare .kept .1 .0 ∙ s .snare .kept .1 .0 ∙ b .bass .kept .1 .0 ∙ z .before .before .before .before .pre
-    ∙ sym (y .synthetic-snare .kept .0 ∙ s .snare .kept .0 ∙ b .bass .kept .0 ∙ z .clear .kept .0)
-
-same-length : tie.Need-same-length
-same-length c =
-    let h = hihat c in
+    ∙ sym (y .synthetic-snare .kept .0 ∙ s .snare .kept .0 ∙ b .bass .kept .0 ∙ z .clear .kept .0))
+    (λ c κs. tt) (λ c κs. tt) (λ c κs. tt) (λ c κs. tt)
+    (λ c. let h = hihat c in
     let y = synthetic h in
     let s = snare y in
     let b = bass s in
-    h .hihat .kept .0 ∙ y .synthetic-snare .kept .0 ∙ s .snare .kept .0 ∙ b .bass .kept .0 ∙ cleared b .clear .kept .0
-
-same-length-2 : tie.Need-same-length-2
-same-length-2 c =
-    let h = hihat c in
+    h .hihat .kept .0 ∙ y .synthetic-snare .kept .0 ∙ s .snare .kept .0 ∙ b .bass .kept .0 ∙ cleared b .clear .kept .0)
+    (λ c. let h = hihat c in
     let y = synthetic h in
     let s = snare y in
-    h .hihat .kept .1 .0 ∙ y .synthetic-snare .kept .1 .0 ∙ s .snare .kept .1 .0 ∙ bass s .bass .kept .1 .0
-
-returns : tie.Need-returns
-returns c =
-    let h = hihat c in
+    h .hihat .kept .1 .0 ∙ y .synthetic-snare .kept .1 .0 ∙ s .snare .kept .1 .0 ∙ bass s .bass .kept .1 .0)
+    (λ c. let h = hihat c in
     let y = synthetic h in
     let s = snare y in
     let b = bass s in
     let z = cleared b in
     rw (c .held4 .ensures, c .before .held3 .ensures, c .before .before .held2 .ensures, c .before .before .before .held .ensures)
     (voices-in-turn (z .before .before .before .before .args .self) _ (z .clear .ensures) (z .clear .kept .0) (b .bass .kept .0) (s .snare .kept .0)
-    (y .synthetic-snare .kept .0) (b .bass .ensures) (s .snare .ensures) (y .synthetic-snare .ensures) (h .hihat .ensures))
-
-pub play-spec : {M : Type 1} → statement M
-play-spec =
-    tie.close
-    (tie.spec (λ c κs. tt) (λ c κs. search needs) (λ c κs. search needs) synthetic-snare-requires hihat-requires (λ c κs. tt) (λ c κs. tt) (λ c κs. tt) (λ c κs. tt)
-    same-length same-length-2 returns)
+    (y .synthetic-snare .kept .0) (b .bass .ensures) (s .snare .ensures) (y .synthetic-snare .ensures) (h .hihat .ensures))))

@@ -15,13 +15,16 @@ use Rattle.cue_render.specs.Kit.{segment, afterSegment}
 use Rattle.cue_render.specs.declared.kit.Kit.{Kit}
 
 -- out is cleared to out₀, and the four voices make out₁ to out₄ of it
-pub voices-in-turn : (k : Kit) (n : ℕ) {out₀ out₁ out₂ out₃ out₄ : List Float} {b : AnalogBassDrum} {s : Noisy AnalogSnareDrum} {y : Noisy SyntheticSnareDrum} {h : Noisy Hihat}
+pub voices-in-turn : (k : Kit) (n : ℕ) {out₀ out₁ out₂ out₃ out₄ : List Float}
+    {b : AnalogBassDrum} {s : Noisy AnalogSnareDrum} {y : Noisy SyntheticSnareDrum} {h : Noisy Hihat}
     → out₀ ≡ silence n → length out₀ ≡ n → length out₁ ≡ length out₀ → length out₂ ≡ length out₁ → length out₃ ≡ length out₂
     → (let v = k .bass in let call = bassCall v (k .b) (length out₀) in (b ≡ after (k .b) call v) × (out₁ ≡ into (k .b) call out₀))
-    → (let v = noisy (k .snare) (k .noise) in let call = snareCall v (k .s) (length out₁) in (s ≡ after (k .s) call v) × (out₂ ≡ into (k .s) call out₁))
+    → (let v = noisy (k .snare) (k .noise) in let call = snareCall v (k .s) (length out₁) in
+    (s ≡ after (k .s) call v) × (out₂ ≡ into (k .s) call out₁))
     → (let v = noisy (k .«synthetic_snare») (s .noise) in let call = syntheticSnareCall v (k .y) (length out₂) in
     (y ≡ after (k .y) call v) × (out₃ ≡ into (k .y) call out₂))
-    → (let v = noisy (k .hihat) (y .noise) in let call = hihatCall v (k .h) (length out₃) in (h ≡ after (k .h) call v) × (out₄ ≡ into (k .h) call out₃))
+    → (let v = noisy (k .hihat) (y .noise) in let call = hihatCall v (k .h) (length out₃) in
+    (h ≡ after (k .h) call v) × (out₄ ≡ into (k .h) call out₃))
     → (record {
       bass = b;
       snare = s .voice;

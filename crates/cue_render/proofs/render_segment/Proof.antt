@@ -23,5 +23,6 @@ render-segment-spec =
     (tie.spec (λ c. search needs) (λ c. search needs) (λ c. search needs) (λ c. search needs) (λ c. search needs) (λ c. search needs)
     (λ c. let s = c .before .before .before .before in sym (length-take-le _ (now (s .args .scratch)) (s .pre .2)))
     (λ c κs. let s = c .before .before .before .before in
-    length-take-le _ (now (s .args .scratch)) (s .pre .2) ∙ sym (part-length (now (s .args .out)) (s .args .from) (s .args .to) (s .pre .0) (s .pre .1)))
+    length-take-le _ (now (s .args .scratch)) (s .pre .2)
+    ∙ sym (part-length (now (s .args .out)) (s .args .from) (s .args .to) (s .pre .0) (s .pre .1)))
     (λ c. search needs) (λ c. search needs) returns)

@@ -29,7 +29,8 @@ play-spec =
     (λ c κs. let s = c .before .before .before .before .before .before in
     let b = bass s in
     let z = cleared b in
-    s .snare .kept .1 .0 ∙ b .bass .kept .1 .0 ∙ z .before .before .before .before .pre ∙ sym (s .snare .kept .0 ∙ b .bass .kept .0 ∙ z .clear .kept .0))
+    s .snare .kept .1 .0 ∙ b .bass .kept .1 .0 ∙ z .before .before .before .before .pre
+    ∙ sym (s .snare .kept .0 ∙ b .bass .kept .0 ∙ z .clear .kept .0))
     (λ c κs. let y = c .before .before .before .before .before .before in
     let s = snare y in
     let b = bass s in

@@ -24,21 +24,20 @@ scan-copy s (x ∷ xs) = ap (λ (l : List Float). x ∷ l) (scan-copy s xs)
 abbrev pub Filling : List Float → List Float → List Float → ℕ → Type 0
 Filling xs out₀ out i = Going copy 0 xs out₀ 0 out i
 
-module _ (xs out₀ : List Float) (same : length xs ≡ length out₀) where
-  fill-begin : Filling xs out₀ out₀ 0
+module _ {xs out₀ : List Float} (same : length xs ≡ length out₀) where
+  pub fill-begin : Filling xs out₀ out₀ 0
   fill-begin = begin copy 0 xs out₀ (omega (arith, same))
 
-  module _ (out : List Float) (i : ℕ) (g : Filling xs out₀ out i) where
-    fill-turn : i < length out → (x : Float) → getD xs i nan ≡ x → Filling xs out₀ (set out i x) (i + 1)
-    fill-turn h x e = rw e at (turn copy 0 xs out₀ 0 out i g (omega (arith, same, g .long)))
-
-    -- the place that comes next
-    fill-next : getD out i nan ≡ getD out₀ i nan
-    fill-next =
+  module _ {out : List Float} {i : ℕ} (g : Filling xs out₀ out i) where
+    -- what is written may be made of what the place holds
+    pub fill-turn : i < length out → {x : Float} → (i < length out₀ → getD out i nan ≡ getD out₀ i nan → getD xs i nan ≡ x)
+        → Filling xs out₀ (set out i x) (i + 1)
+    fill-turn h e =
         let at : (l : List Float) → getD (drop i l) 0 nan ≡ getD l i nan = λ l. getD-drop i l 0 nan ∙ ap (λ (k : ℕ). getD l k nan) (add-zero i) in
-        sym (at out) ∙ ap (λ (l : List Float). getD l 0 nan) (g .rest) ∙ at out₀
+        let held = sym (at out) ∙ ap (λ (l : List Float). getD l 0 nan) (g .rest) ∙ at out₀ in
+        rw (e (omega (arith, g .long)) held) at (turn copy 0 xs out₀ 0 out i g (omega (arith, same, g .long)))
 
-    fill-end : length out ≤ i → out ≡ xs
+    pub fill-end : length out ≤ i → out ≡ xs
     fill-end h =
         end copy 0 xs out₀ 0 out i g (omega (arith, same, g .long)) .1
         ∙ rw (scan-copy 0 xs, same, drop-length out₀, append-nil xs)
@@ -48,49 +47,21 @@ pub silence-length : (n : ℕ) → length (silence n) ≡ n
 unfolding silence
 silence-length n = length-replicate n _
 
-silence-at : (n i : ℕ) → i < n → getD (silence n) i nan ≡ ofBits binary32 0
+pub silence-at : (n i : ℕ) → i < n → getD (silence n) i nan ≡ ofBits binary32 0
 unfolding silence ofBits round
 silence-at n i h = getD-replicate n i _ nan h
 
-module _ (out₀ : List Float) where
-  pub clear-begin : Filling (silence (length out₀)) out₀ out₀ 0
-  clear-begin = fill-begin _ _ (silence-length _)
-
-  module _ {out : List Float} {i : ℕ} (g : Filling (silence (length out₀)) out₀ out i) where
-    pub clear-turn : i < length out → Filling (silence (length out₀)) out₀ (set out i (ofBits binary32 0)) (i + 1)
-    clear-turn h = fill-turn _ _ (silence-length _) _ _ g h _ (silence-at _ i (omega (arith, g .long)))
-
-    pub clear-end : length out ≤ i → out ≡ silence (length out₀)
-    clear-end = fill-end _ _ (silence-length _) _ _ g
-
--- a scratch as long as a segment of n samples, once it is cleared
-pub cleared-scratch : (scratch : List Float) (m n : ℕ) → m ≡ n → scratch ≡ silence m → scratch ≡ silence n
-cleared-scratch scratch m n long e = e ∙ ap silence long
-
 -- ---- sums
-added-length : (xs ys : List Float) → length (added xs ys) ≡ length xs
+pub added-length : (xs ys : List Float) → length (added xs ys) ≡ length xs
 unfolding added
 added-length [] ys = refl
 added-length (x ∷ xs) [] = refl
 added-length (x ∷ xs) (y ∷ ys) = ap suc (added-length xs ys)
 
-added-at : (xs ys : List Float) (i : ℕ) → i < length xs → length ys ≡ length xs → getD (added xs ys) i nan ≡ add binary32 (getD xs i nan) (getD ys i nan)
+pub added-at : (xs ys : List Float) (i : ℕ) → i < length xs → length ys ≡ length xs → {x : Float} → x ≡ getD xs i nan
+    → getD (added xs ys) i nan ≡ add binary32 x (getD ys i nan)
 unfolding added
-added-at [] ys i h e = absurd (omega arith)
-added-at (x ∷ xs) [] i h e = absurd (omega arith)
-added-at (x ∷ xs) (y ∷ ys) zero h e = refl
-added-at (x ∷ xs) (y ∷ ys) (suc i) h e = added-at xs ys i (omega arith) (omega arith)
-
-module _ (out₀ block : List Float) where
-  pub add-begin : Filling (added out₀ block) out₀ out₀ 0
-  add-begin = fill-begin _ _ (added-length _ _)
-
-  module _ {out : List Float} {i : ℕ} (g : Filling (added out₀ block) out₀ out i) where
-    pub add-turn : i < length out → length block ≡ length out₀
-        → Filling (added out₀ block) out₀ (set out i (add binary32 (getD out i nan) (getD block i nan))) (i + 1)
-    add-turn h same =
-        fill-turn _ _ (added-length _ _) _ _ g h _
-        (rw (fill-next _ _ (added-length _ _) _ _ g) (added-at _ _ i (omega (arith, g .long)) same))
-
-    pub add-end : length out ≤ i → out ≡ added out₀ block
-    add-end = fill-end _ _ (added-length _ _) _ _ g
+added-at [] ys i h same e = absurd (omega arith)
+added-at (x ∷ xs) [] i h same e = absurd (omega arith)
+added-at (x ∷ xs) (y ∷ ys) zero h same e = rw e
+added-at (x ∷ xs) (y ∷ ys) (suc i) h same e = added-at xs ys i (omega arith) (omega arith) e

@@ -2,5 +2,4 @@
 mod Fill
 mod Segment
 mod Walk
-mod SheetIntoBuffer
 mod NeverRefused

@@ -12,9 +12,9 @@ use lib.Ieee.Order.{le-of-values}
 use lib.Ieee.Bits.{is-true}
 use borrow.Author.Tests.{le-leb}
 use Rattle.ieee754.specs.Single.{decimal}
-use Rattle.block.specs.Block.{after}
+use Rattle.block.specs.Block as Block
 use Rattle.block.proofs.Blocks.{after-keeps}
-use Rattle.refusal.specs.Refusal.{Noisy, noisy, isSampleRate, isUnit, isBassDecay, within, unlessRefused}
+use Rattle.refusal.specs.Refusal.{Noisy, noisy, Call, isSampleRate, isUnit, isBassDecay, within, unlessRefused}
 use Rattle.analog_bass_drum.specs.AnalogBassDrum as AnalogBassDrum
 use Rattle.analog_snare_drum.specs.AnalogSnareDrum as AnalogSnareDrum
 use Rattle.synthetic_snare_drum.specs.SyntheticSnareDrum as SyntheticSnareDrum
@@ -31,14 +31,10 @@ use Rattle.cue_sheet.specs.declared.Walk.{Walk}
 use Rattle.cue_sheet.specs.declared.line.Cue.{Cue}
 use Rattle.cue_sheet.specs.declared.line.Cue.the-variants.{Bass, Snare, SyntheticSnare as Synthetic, Hihat}
 use Rattle.cue_sheet.proofs.Questions.{KnobsIn, KnobsOf, cue-passed}
-use Rattle.cue_render.specs.Part.{knobsOf, ofBass, bassCall, bassAfter, snareCall, snareAfter, syntheticSnareCall, syntheticSnareAfter, hihatCall, hihatAfter}
-use Rattle.cue_render.specs.Kit.{unstruck, start, afterSegment, strike, struck}
+use Rattle.cue_render.specs.Part.{after, bassCall, snareCall, syntheticSnareCall, hihatCall}
+use Rattle.cue_render.specs.Kit.{unstruck, start, syntheticIn, hihatIn, afterSegment, strike}
 use Rattle.cue_render.specs.Calls.{SegmentAccepted, SegmentsAccepted, NoneRefused}
 use Rattle.cue_render.specs.declared.part.Playing.{Playing}
-use Rattle.cue_render.specs.declared.part.BassPart.{BassPart}
-use Rattle.cue_render.specs.declared.part.SnarePlayed.{SnarePlayed}
-use Rattle.cue_render.specs.declared.part.SyntheticSnarePlayed.{SyntheticSnarePlayed}
-use Rattle.cue_render.specs.declared.part.HihatPlayed.{HihatPlayed}
 use Rattle.cue_render.specs.declared.kit.Kit.{Kit}
 use Rattle.cue_sheet.specs.declared.Head.{Head}
 use Rattle.cue_sheet.proofs.FirstLines.{HeadIn, accepted-head}
@@ -57,104 +53,91 @@ sheet-rate head h = rw (whole-le 16000 (head .rate) (h .lowest) (omega (arith, h
 
 -- ---- the knobs of what is struck have passed their questions
 abbrev Passed : (Float → Bool) → Playing → Type 0
-Passed decays p = p .struck ≡ true → KnobsIn decays (p .knobs .accent) (p .knobs .f0) (p .knobs .a) (p .knobs .decay) (p .knobs .c)
+Passed decays p = p .struck ≡ true → KnobsIn decays (p .accent) (p .f0) (p .a) (p .decay) (p .c)
 
--- ---- the voices that store the rate keep it
-kept : {A B : Type 0} (part : A → B) (n : ℕ) (new old : A) → part new ≡ part old → part (unlessRefused n new old) ≡ part old
-kept part zero new old same = same
-kept part (suc n) new old same = refl
-
+-- ---- the synthetic snare, which stores the rate, keeps it
 abbrev syntheticRate : Noisy SyntheticSnare → Float
 syntheticRate s = s .voice .«sample_rate_hz»
 
+kept : (s : Noisy SyntheticSnare) (k : SyntheticSnareKnobs) (m n : ℕ) (t : Bool)
+    → let b = SyntheticSnareDrum.settings (s .voice) k m in
+    let v = SyntheticSnareDrum.tuned (s .voice) b in
+    let begun = noisy (cond t (SyntheticSnareDrum.triggered v (k .accent) (k .decay)) v) (s .noise) in
+    syntheticRate (unlessRefused n (Block.after (SyntheticSnareDrum.step b m) m begun) s) ≡ syntheticRate s
+unfolding SyntheticSnareDrum.tuned SyntheticSnareDrum.triggered SyntheticSnareDrum.step
+kept s k m zero true = rw (after-keeps (SyntheticSnareDrum.step (SyntheticSnareDrum.settings (s .voice) k m) m) syntheticRate (λ t. refl))
+kept s k m zero false = rw (after-keeps (SyntheticSnareDrum.step (SyntheticSnareDrum.settings (s .voice) k m) m) syntheticRate (λ t. refl))
+kept s k m (suc n) t = refl
+
 synthetic-rate : (s : Noisy SyntheticSnare) (trigger : Bool) (k : SyntheticSnareKnobs) (out : List Float)
     → syntheticRate (SyntheticSnareDrum.render s trigger k out .state) ≡ syntheticRate s
-unfolding SyntheticSnareDrum.tuned SyntheticSnareDrum.triggered SyntheticSnareDrum.step
-synthetic-rate s trigger k out =
-    let n = List.length out in
-    let b = SyntheticSnareDrum.settings (s .voice) k n in
-    let voice = SyntheticSnareDrum.tuned (s .voice) b in
-    let start = noisy (cond trigger (SyntheticSnareDrum.triggered voice (k .accent) (k .decay)) voice) (s .noise) in
-    kept syntheticRate (SyntheticSnareDrum.renderRefusal (syntheticRate s) k n) (after (SyntheticSnareDrum.step b n) n start) s
-    (after-keeps (SyntheticSnareDrum.step b n) syntheticRate (λ t. refl) n start ∙ begun trigger)
-  where
-    begun : (t : Bool) → let v = SyntheticSnareDrum.tuned (s .voice) (SyntheticSnareDrum.settings (s .voice) k (List.length out)) in
-        cond t (SyntheticSnareDrum.triggered v (k .accent) (k .decay)) v .«sample_rate_hz» ≡ syntheticRate s
-    begun true = refl
-    begun false = refl
+synthetic-rate s trigger k out = kept s k (List.length out) (SyntheticSnareDrum.renderRefusal (syntheticRate s) k (List.length out)) trigger
 
 -- ---- a kit that no voice of it refuses
 record Ready (k : Kit) : Type 0 where
-  bass : Passed isBassDecay (k .bass .playing)
-  snare : Passed isUnit (k .snare .playing)
-  synthetic-snare : Passed isUnit (k .«synthetic_snare» .playing)
-  hihat : Passed isUnit (k .hihat .playing)
-  synthetic-rate : isSampleRate (k .«synthetic_snare» .voice .«sample_rate_hz») ≡ true
-  hihat-rate : isSampleRate (k .hihat .voice .«sample_rate») ≡ true
+  b : Passed isBassDecay (k .b)
+  s : Passed isUnit (k .s)
+  y : Passed isUnit (k .y)
+  h : Passed isUnit (k .h)
+  rates : (isSampleRate (k .«synthetic_snare» .«sample_rate_hz») ≡ true) × (isSampleRate (k .hihat .«sample_rate») ≡ true)
 
 zero-unit : isUnit (decimal 0 0) ≡ true
 unfolding isUnit within le round
 zero-unit = refl
 
 ready-accepted : (k : Kit) (n : ℕ) → n ≤ 16384 → Ready k → SegmentAccepted k n
-unfolding bassCall snareCall syntheticSnareCall hihatCall ofBass AnalogBassDrum.renderRefusal AnalogSnareDrum.renderRefusal SyntheticSnareDrum.renderRefusal hihat.renderRefusal
+unfolding bassCall snareCall syntheticSnareCall hihatCall AnalogBassDrum.renderRefusal AnalogSnareDrum.renderRefusal SyntheticSnareDrum.renderRefusal hihat.renderRefusal
 ready-accepted k n short r =
     let size = le-leb n 16384 short in
     record {
-      bass = λ struck. let q = r .bass struck in rw (silence-length n, size, q .frequency, q .accent-in, q .a-in, q .decay-in, q .c-in, zero-unit);
-      snare = λ struck noise. let q = r .snare struck in rw (silence-length n, size, q .frequency, q .accent-in, q .a-in, q .decay-in, q .c-in);
+      bass = λ struck. let q = r .b struck in rw (silence-length n, size, q .frequency, q .accent-in, q .a-in, q .decay-in, q .c-in, zero-unit);
+      snare = λ struck noise. let q = r .s struck in rw (silence-length n, size, q .frequency, q .accent-in, q .a-in, q .decay-in, q .c-in);
       synthetic-snare =
-          λ struck noise. let q = r .synthetic-snare struck in
-          rw (silence-length n, r .synthetic-rate, size, q .frequency, q .accent-in, q .a-in, q .decay-in, q .c-in);
+          λ struck noise. let q = r .y struck in
+          rw (silence-length n, r .rates .0, size, q .frequency, q .accent-in, q .a-in, q .decay-in, q .c-in);
       hihat =
-          λ struck noise. let q = r .hihat struck in
-          rw (silence-length n, r .hihat-rate, size, q .frequency, q .accent-in, q .a-in, q .decay-in, q .c-in);
+          λ struck noise. let q = r .h struck in
+          rw (silence-length n, r .rates .1, size, q .frequency, q .accent-in, q .a-in, q .decay-in, q .c-in);
     }
 
 -- ---- it starts so, and stays so
+unstruck-passed : (decays : Float → Bool) → Passed decays unstruck
+unfolding unstruck
+unstruck-passed decays struck = absurd (true≢false (sym struck))
+
 start-ready : (rate : ℕ) → isSampleRate (ofInt binary32 (pos rate)) ≡ true → Ready (start rate)
-unfolding start unstruck SyntheticSnareDrum.initialized hihat.initialized
-start-ready rate h = record {
-  bass = λ struck. absurd (true≢false (sym struck));
-  snare = λ struck. absurd (true≢false (sym struck));
-  synthetic-snare = λ struck. absurd (true≢false (sym struck));
-  hihat = λ struck. absurd (true≢false (sym struck));
-  synthetic-rate = rw h h;
-  hihat-rate = rw h h;
-}
+unfolding start SyntheticSnareDrum.initialized hihat.initialized
+start-ready rate h = record { b = unstruck-passed _; s = unstruck-passed _; y = unstruck-passed _; h = unstruck-passed _; rates = rw h (h, h) }
 
 strike-ready : (k : Kit) (cue : Cue) → KnobsOf cue → Ready k → Ready (strike k cue)
-unfolding strike struck knobsOf
-strike-ready k (Bass accent f0 tone decay attackFmAmount) knobs r =
-    record { bass = λ struck. knobs; snare = r .snare; synthetic-snare = r .synthetic-snare; hihat = r .hihat; synthetic-rate = r .synthetic-rate; hihat-rate = r .hihat-rate }
-strike-ready k (Snare accent f0 tone decay snappy) knobs r =
-    record { bass = r .bass; snare = λ struck. knobs; synthetic-snare = r .synthetic-snare; hihat = r .hihat; synthetic-rate = r .synthetic-rate; hihat-rate = r .hihat-rate }
-strike-ready k (Synthetic accent f0 fmAmount decay snappy) knobs r =
-    record { bass = r .bass; snare = r .snare; synthetic-snare = λ struck. knobs; hihat = r .hihat; synthetic-rate = r .synthetic-rate; hihat-rate = r .hihat-rate }
-strike-ready k (Hihat accent f0 tone decay noisiness) knobs r =
-    record { bass = r .bass; snare = r .snare; synthetic-snare = r .synthetic-snare; hihat = λ struck. knobs; synthetic-rate = r .synthetic-rate; hihat-rate = r .hihat-rate }
+unfolding strike
+strike-ready k (Bass accent f0 tone decay attackFmAmount) knobs r = record { b = λ struck. knobs; s = r .s; y = r .y; h = r .h; rates = r .rates }
+strike-ready k (Snare accent f0 tone decay snappy) knobs r = record { b = r .b; s = λ struck. knobs; y = r .y; h = r .h; rates = r .rates }
+strike-ready k (Synthetic accent f0 fmAmount decay snappy) knobs r = record { b = r .b; s = r .s; y = λ struck. knobs; h = r .h; rates = r .rates }
+strike-ready k (Hihat accent f0 tone decay noisiness) knobs r = record { b = r .b; s = r .s; y = r .y; h = λ struck. knobs; rates = r .rates }
 
-either : {A : Type 0} (P : A → Type 0) (t : Bool) (x y : A) → P x → P y → P (cond t x y)
-either P true x y p q = p
-either P false x y p q = q
+-- a rate that the call keeps
+rate-after : {Voice : Type 0} (rate : Noisy Voice → Float) (p : Playing) (call : Call (Noisy Voice)) (v : Noisy Voice)
+    → rate (call .state) ≡ rate v → rate (after p call v) ≡ rate v
+unfolding after
+rate-after rate p call v same = go (p .struck)
+  where
+    go : (t : Bool) → rate (cond t (call .state) v) ≡ rate v
+    go true = same
+    go false = refl
 
 segment-ready : (k : Kit) (n : ℕ) → Ready k → Ready (afterSegment k n)
-unfolding afterSegment bassAfter snareAfter syntheticSnareAfter hihatAfter syntheticSnareCall hihatCall
-segment-ready k n r =
-    let y = k .«synthetic_snare» .playing in
-    let h = k .hihat .playing in
-    record {
-      bass = either (λ (p : BassPart). Passed isBassDecay (p .playing)) (k .bass .playing .struck) _ _ (r .bass) (r .bass);
-      snare = either (λ (p : SnarePlayed). Passed isUnit (p .part .playing)) (k .snare .playing .struck) _ _ (r .snare) (r .snare);
-      synthetic-snare = either (λ (p : SyntheticSnarePlayed). Passed isUnit (p .part .playing)) (y .struck) _ _ (r .synthetic-snare) (r .synthetic-snare);
-      hihat = either (λ (p : HihatPlayed). Passed isUnit (p .part .playing)) (h .struck) _ _ (r .hihat) (r .hihat);
-      synthetic-rate =
-          either (λ (p : SyntheticSnarePlayed). isSampleRate (p .part .voice .«sample_rate_hz») ≡ true) (y .struck) _ _
-          (ap isSampleRate (synthetic-rate _ (y .trigger) _ (silence n)) ∙ r .synthetic-rate) (r .synthetic-rate);
-      hihat-rate =
-          either (λ (p : HihatPlayed). isSampleRate (p .part .voice .«sample_rate») ≡ true) (h .struck) _ _
-          (ap isSampleRate (rate-kept _ (h .trigger) Swing _ (silence n)) ∙ r .hihat-rate) (r .hihat-rate);
-    }
+unfolding afterSegment syntheticSnareCall hihatCall
+segment-ready k n r = record {
+  b = r .b;
+  s = r .s;
+  y = r .y;
+  h = r .h;
+  rates = (
+    ap isSampleRate (rate-after syntheticRate (k .y) _ (syntheticIn k n) (synthetic-rate _ (k .y .trigger) _ (silence n))) ∙ r .rates .0,
+    ap isSampleRate (rate-after (λ v. v .voice .«sample_rate») (k .h) _ (hihatIn k n) (rate-kept _ (k .h .trigger) Swing _ (silence n))) ∙ r .rates .1,
+  );
+}
 
 -- ---- the cues of a sheet start below its length, and their knobs have passed their questions
 CuesIn : ℕ → List Strike → Type 0
@@ -175,10 +158,9 @@ segments-ready : (length : ℕ) → length ≤ 16384 → (k : Kit) (from : ℕ) 
 unfolding SegmentsAccepted CuesIn
 segments-ready length short k from [] r cues = ready-accepted k (length - from) (omega arith) r
 segments-ready length short k from (s ∷ ss) r cues =
-    let played = afterSegment k (s .start - from) in
-    let next = strike-ready played (s .cue) (cues .1) (segment-ready k (s .start - from) r) in (
-      ready-accepted k (s .start - from) (omega (arith, cues .0)) r,
-      segments-ready length short (strike played (s .cue)) (s .start) ss next (cues .2),
+    let n = s .start - from in (
+      ready-accepted k n (omega (arith, cues .0)) r,
+      segments-ready length short _ (s .start) ss (strike-ready _ (s .cue) (cues .1) (segment-ready k n r)) (cues .2),
     )
 
 pub never-refused : (sheet : List ℕ) → NoneRefused sheet
@@ -187,6 +169,5 @@ never-refused sheet head cues h =
     let known = accepted-head sheet h in
     let in-range = sheet-rate head known in (
       record { bass = rw in-range; snare = rw in-range; synthetic-snare = rw in-range; hihat = rw in-range },
-      segments-ready (head .length) (known .longest) (start (head .rate)) 0 (strikes head sheet) (start-ready (head .rate) in-range)
-          (cues-in (head .length) _ _ refl),
+      segments-ready (head .length) (known .longest) _ 0 (strikes head sheet) (start-ready (head .rate) in-range) (cues-in (head .length) _ _ refl),
     )

@@ -85,17 +85,12 @@ module _ {sheet : List ℕ} {head : Head} {out₀ : List Float} {kit : KitT} {fr
 
     -- a cue
     module _ {s : Strike} (e : readLine w here ≡ says s) where
-      pub cue-after : from ≤ s .start
-      cue-after = omega (arith, g .behind, cue-passed _ _ _ _ e .least)
-
       below : s .start < head .length
       below = rw (g .same) at (cue-passed _ _ _ _ e .inside)
 
-      pub cue-within : s .start ≤ List.length out
-      cue-within = omega (arith, below, g .room)
-
-      pub cue-room : (scratch : List Float) → head .length ≤ List.length scratch → s .start - from ≤ List.length scratch
-      cue-room scratch enough = omega (arith, below, enough)
+      pub cue-fits : (scratch : List Float) → head .length ≤ List.length scratch
+          → (from ≤ s .start) × (s .start ≤ List.length out) × (s .start - from ≤ List.length scratch)
+      cue-fits scratch enough = (omega (arith, g .behind, cue-passed _ _ _ _ e .least), omega (arith, below, g .room), omega (arith, below, enough))
 
       pub turn : {out′ : List Float} {kit₁ kit₂ : KitT} → kit₁ ≡ afterSegment kit (s .start - from)
           → out′ ≡ take from out ++ (segment kit (s .start - from) ++ drop (s .start) out)
@@ -104,6 +99,7 @@ module _ {sheet : List ℕ} {head : Head} {out₀ : List Float} {kit : KitT} {fr
       turn {out′ = out′} after written long struck-is =
           let to = s .start in
           let seg = segment kit (to - from) in
+          let fits = cue-fits out (g .room) in
           record {
             same = next-head w here ∙ g .same;
             inside = omega (arith, below);
@@ -112,8 +108,8 @@ module _ {sheet : List ℕ} {head : Head} {out₀ : List Float} {kit : KitT} {fr
             long = long ∙ g .long;
             left =
                 rw (
-                  front out seg out′ from to cue-after cue-within written long,
-                  back out seg out′ from to cue-after cue-within written long (head .length) (omega (arith, below)),
+                  front out seg out′ from to (fits .0) (fits .1) written long,
+                  back out seg out′ from to (fits .0) (fits .1) written long (head .length) (omega (arith, below)),
                   append-assoc,
                   ← append-assoc seg,
                   struck-is,

@@ -5,6 +5,7 @@ use mathlib.Core.Bool.{true}
 use mathlib.Core.List.{List, [], _∷_}
 use lib.IntN.{pos}
 use lib.Ieee.{binary32, ofInt}
+use Rattle.refusal.specs.Refusal.{noisy}
 use Rattle.analog_bass_drum.specs.AnalogBassDrum as AnalogBassDrum
 use Rattle.analog_snare_drum.specs.AnalogSnareDrum as AnalogSnareDrum
 use Rattle.synthetic_snare_drum.specs.SyntheticSnareDrum as SyntheticSnareDrum
@@ -25,10 +26,10 @@ pub record StartAccepted (rate : ℕ) : Type 0 where
   pub hihat : Hihat.init Hihat.ZERO (ofInt binary32 (pos rate)) .number ≡ 0
 
 pub record SegmentAccepted (k : Kit) (n : ℕ) : Type 0 where
-  pub bass : k .bass .playing .struck ≡ true → bassCall (k .bass) n .number ≡ 0
-  pub snare : k .snare .playing .struck ≡ true → (noise : ℕ) → snareCall (k .snare) noise n .number ≡ 0
-  pub synthetic-snare : k .«synthetic_snare» .playing .struck ≡ true → (noise : ℕ) → syntheticSnareCall (k .«synthetic_snare») noise n .number ≡ 0
-  pub hihat : k .hihat .playing .struck ≡ true → (noise : ℕ) → hihatCall (k .hihat) noise n .number ≡ 0
+  pub bass : k .b .struck ≡ true → bassCall (k .bass) (k .b) n .number ≡ 0
+  pub snare : k .s .struck ≡ true → (noise : ℕ) → snareCall (noisy (k .snare) noise) (k .s) n .number ≡ 0
+  pub synthetic-snare : k .y .struck ≡ true → (noise : ℕ) → syntheticSnareCall (noisy (k .«synthetic_snare») noise) (k .y) n .number ≡ 0
+  pub hihat : k .h .struck ≡ true → (noise : ℕ) → hihatCall (noisy (k .hihat) noise) (k .h) n .number ≡ 0
 
 -- in each of the segments
 unfoldable pub SegmentsAccepted : ℕ → Kit → ℕ → List Strike → Type 0

@@ -1,27 +1,27 @@
-// The kit: the four parts and the noise state that passes through them, and one segment of a sheet.
+// The kit: the four voices with what they play and the noise state that passes through them, and one segment of a sheet.
 ghost use mathlib.Core.Path.{_≡_};
 ghost use lib.ListN.{length};
-ghost use Rattle.cue_render.specs.Mix.{silence};
 ghost use Rattle.cue_render.specs.Kit as spec;
 use crate::mix;
-use crate::part::BassPart;
-use crate::part::HihatPart;
-use crate::part::Knobs;
+use crate::part;
 use crate::part::Playing;
-use crate::part::SnarePart;
-use crate::part::SyntheticSnarePart;
 use analog_bass_drum::AnalogBassDrum;
 use analog_snare_drum::AnalogSnareDrum;
 use cue_sheet::Cue;
 use hihat::Hihat;
 use synthetic_snare_drum::SyntheticSnareDrum;
 
+// b, s, y and h are what the bass, the snare, the synthetic snare and the hi-hat play.
 pub(crate) struct Kit {
-    pub(crate) bass: BassPart,
-    pub(crate) snare: SnarePart,
-    pub(crate) synthetic_snare: SyntheticSnarePart,
-    pub(crate) hihat: HihatPart,
+    pub(crate) bass: AnalogBassDrum,
+    pub(crate) snare: AnalogSnareDrum,
+    pub(crate) synthetic_snare: SyntheticSnareDrum,
+    pub(crate) hihat: Hihat,
     pub(crate) noise: u32,
+    pub(crate) b: Playing,
+    pub(crate) s: Playing,
+    pub(crate) y: Playing,
+    pub(crate) h: Playing,
 }
 
 impl Kit {
@@ -34,25 +34,16 @@ impl Kit {
         let snare = AnalogSnareDrum::ZERO.init(sample_rate).voice;
         let synthetic_snare = SyntheticSnareDrum::ZERO.init(sample_rate).voice;
         let hihat = Hihat::ZERO.init(sample_rate).voice;
-        let playing = unstruck();
         Kit {
-            bass: BassPart {
-                voice: bass,
-                playing,
-            },
-            snare: SnarePart {
-                voice: snare,
-                playing,
-            },
-            synthetic_snare: SyntheticSnarePart {
-                voice: synthetic_snare,
-                playing,
-            },
-            hihat: HihatPart {
-                voice: hihat,
-                playing,
-            },
+            bass,
+            snare,
+            synthetic_snare,
+            hihat,
             noise: 33,
+            b: Playing::UNSTRUCK,
+            s: Playing::UNSTRUCK,
+            y: Playing::UNSTRUCK,
+            h: Playing::UNSTRUCK,
         }
     }
 
@@ -60,70 +51,63 @@ impl Kit {
     pub(crate) fn strike(mut self, cue: Cue) -> Self
         ensures { λ r. ⌜ r ≡ spec.strike self cue ⌝ }
     {
-        let playing = Playing::strike(Knobs::of(cue));
         match cue {
-            Cue::Bass { .. } => {
-                let mut bass = self.bass;
-                bass.playing = playing;
-                self.bass = bass;
-            }
-            Cue::Snare { .. } => {
-                let mut snare = self.snare;
-                snare.playing = playing;
-                self.snare = snare;
-            }
-            Cue::SyntheticSnare { .. } => {
-                let mut synthetic_snare = self.synthetic_snare;
-                synthetic_snare.playing = playing;
-                self.synthetic_snare = synthetic_snare;
-            }
-            Cue::Hihat { .. } => {
-                let mut hihat = self.hihat;
-                hihat.playing = playing;
-                self.hihat = hihat;
-            }
+            Cue::Bass {
+                accent,
+                f0,
+                tone,
+                decay,
+                attack_fm_amount,
+            } => self.b = Playing::strike(accent, f0, tone, decay, attack_fm_amount),
+            Cue::Snare {
+                accent,
+                f0,
+                tone,
+                decay,
+                snappy,
+            } => self.s = Playing::strike(accent, f0, tone, decay, snappy),
+            Cue::SyntheticSnare {
+                accent,
+                f0,
+                fm_amount,
+                decay,
+                snappy,
+            } => self.y = Playing::strike(accent, f0, fm_amount, decay, snappy),
+            Cue::Hihat {
+                accent,
+                f0,
+                tone,
+                decay,
+                noisiness,
+            } => self.h = Playing::strike(accent, f0, tone, decay, noisiness),
         }
         self
     }
 
-    // A segment from silence on, by b, s, y and h in this order. The scratch is as long as it, and is left silent.
+    // A segment from silence on, by b, s, y and h in this order. The scratch is as long as it.
     pub(crate) fn play(self, out: &mut [f32], scratch: &mut [f32]) -> Self
         requires { ⌜ length (now scratch) ≡ length (now out) ⌝ }
         ensures kit { λ r. ⌜ r ≡ spec.afterSegment self (length (now (out .entry))) ⌝ }
         ensures block { λ _. ⌜ now (out .exit) ≡ spec.segment self (length (now (out .entry))) ⌝ }
-        ensures silent { λ _. ⌜ now (scratch .exit) ≡ silence (length (now (scratch .entry))) ⌝ }
     {
         mix::clear(out);
-        let bass = self.bass.play(out, scratch);
-        let s = self.snare.play(self.noise, out, scratch);
-        let y = self.synthetic_snare.play(s.noise, out, scratch);
-        let h = self.hihat.play(y.noise, out, scratch);
-        mix::clear(scratch);
-        let snare = s.part;
-        let synthetic_snare = y.part;
-        let hihat = h.part;
+        let bass = part::bass(out, scratch, self.bass, self.b);
+        let s = part::snare(out, scratch, self.snare, self.noise, self.s);
+        let y = part::synthetic_snare(out, scratch, self.synthetic_snare, s.noise, self.y);
+        let h = part::hihat(out, scratch, self.hihat, y.noise, self.h);
+        let snare = s.voice;
+        let synthetic_snare = y.voice;
+        let hihat = h.voice;
         Kit {
             bass,
             snare,
             synthetic_snare,
             hihat,
             noise: h.noise,
+            b: self.b.held(),
+            s: self.s.held(),
+            y: self.y.held(),
+            h: self.h.held(),
         }
-    }
-}
-
-fn unstruck() -> Playing
-    ensures { λ r. ⌜ r ≡ spec.unstruck ⌝ }
-{
-    Playing {
-        struck: false,
-        trigger: false,
-        knobs: Knobs {
-            accent: 0.0,
-            f0: 0.0,
-            a: 0.0,
-            decay: 0.0,
-            c: 0.0,
-        },
     }
 }

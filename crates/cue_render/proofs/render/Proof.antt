@@ -1,24 +1,30 @@
--- Each arm is one of the three answers to a sheet and a buffer.
-use Rattle.cue_render.proofs.SheetIntoBuffer.{longest, refused-sheet, short-buffer, filled-buffer}
+-- Each arm is one of the three answers to a sheet and a buffer, with what it leaves in the buffer.
+use mathlib.Core.Path.{refl, sym, ap, _∙_}
 use borrow.Author.Needs.{needs}
+use borrow.Author.Tests.{le-leb, lt-leb}
+use Rattle.cue_sheet.specs.Sheet as Sheet
+use Rattle.cue_sheet.proofs.FirstLines.{accepted-head}
+use Rattle.cue_render.specs.Render.{inBuffer, answer, filled, render}
+use Rattle.cue_render.proofs.NeverRefused.{never-refused}
 use Rattle.cue_render.proofs.render.Statement.{statement}
 use Rattle.cue_render.proofs.render.Tie as tie
 
-returns : tie.Need-returns
-returns c =
-    let accepted = c .before .before .before in
-    short-buffer _ _ (accepted .before .before .judge .ensures) (accepted .head .given .1) (c .if1 .taken)
-
-returns-3 : tie.Need-returns-3
-returns-3 c =
-    let rendered = c .before .before .before in
-    let test = rendered .before .before .before in
-    let accepted = test .before .before .before in
-    filled-buffer _ _ (accepted .before .before .judge .ensures) (accepted .head .given .1) (test .if1 .left) (rendered .render-lines .ensures)
-
 pub render-spec : {M : Type 1} → statement M
+unfolding answer inBuffer render filled
 render-spec =
     tie.close
-    (tie.spec (λ c κs. tt) (λ c. search needs) (λ c. search needs) (λ c. search needs) returns (λ c. search needs)
-    (λ c κs. (search needs, search longest))
-    (λ c. let arm = c .before in refused-sheet _ _ (arm .before .before .judge .ensures) (arm .refusal .given .1)) (λ c. search needs) returns-3)
+    (tie.spec (λ c κs. tt) (λ c. search needs) (λ c. search needs) (λ c. search needs)
+    (λ c. let arm = c .before .before .before in
+    let known = sym (arm .before .before .judge .ensures) ∙ ap Sheet.answer (arm .head .given .1) in
+    rw (known, lt-leb _ _ (c .if1 .taken)) (refl, (refl, never-refused _)))
+    (λ c. search needs)
+    (λ c κs. let arm = c .before .before .before .before .before in
+    (search needs, accepted-head _ (sym (arm .before .before .judge .ensures) ∙ ap Sheet.answer (arm .head .given .1)) .longest))
+    (λ c. let arm = c .before in
+    rw (sym (arm .before .before .judge .ensures) ∙ ap Sheet.answer (arm .refusal .given .1)) (refl, (refl, never-refused _)))
+    (λ c. search needs)
+    (λ c. let rendered = c .before .before .before in
+    let test = rendered .before .before .before in
+    let arm = test .before .before .before in
+    let known = sym (arm .before .before .judge .ensures) ∙ ap Sheet.answer (arm .head .given .1) in
+    rw (known, le-leb _ _ (test .if1 .left)) (refl, (rendered .render-lines .ensures, never-refused _))))

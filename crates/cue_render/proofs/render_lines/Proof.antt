@@ -6,7 +6,7 @@ use native.Mathlib.Omega.{arith}
 use lib.ListN as List
 use Rattle.cue_sheet.specs.CueLine.{told}
 use Rattle.cue_sheet.proofs.Walks.{next-less}
-use Rattle.cue_render.proofs.Walk.{Walking, begins, passes, cue-after, cue-within, cue-room, last-room, turn, end}
+use Rattle.cue_render.proofs.Walk.{Walking, begins, passes, cue-fits, last-room, turn, end}
 use Rattle.cue_render.proofs.render_lines.Statement.{statement}
 use Rattle.cue_render.proofs.render_lines.Tie as tie
 
@@ -47,9 +47,8 @@ render-segment-requires c κs =
     let step = read (c .before .before) in
     let loop = step .before .before .before .loop in
     let inv = loop .inv in
-    let more = step .before .if1 .taken in
     let e = sym (step .next .ensures .0) ∙ ap told (c .before .before .before .line .given .1) in
-    (cue-after (inv .0) more e, cue-within (inv .0) more e, cue-room (inv .0) more e (loop .scratch) (inv .2))
+    cue-fits (inv .0) (step .before .if1 .taken) e (loop .scratch) (inv .2)
 
 loop-less-2 : tie.Need-loop-less-2 Inv-loop μ-loop
 loop-less-2 c =

@@ -2,7 +2,7 @@
 use Prim.Native.Nat.{_-_}
 use lib.ListN.{length}
 use Rattle.cue_render.specs.Mix.{added}
-use Rattle.cue_render.proofs.Fill.{Filling, add-begin, add-turn, add-end}
+use Rattle.cue_render.proofs.Fill.{Filling, fill-begin, fill-turn, fill-end, added-length, added-at}
 use borrow.Author.Needs.{needs}
 use Rattle.cue_render.proofs.mix.add_to.Statement.{statement}
 use Rattle.cue_render.proofs.mix.add_to.Tie as tie
@@ -16,6 +16,6 @@ abbrev μ-loop : tie.MeasureT-loop
 pub add-to-spec : {M : Type 1} → statement M
 add-to-spec =
     tie.close
-    (tie.spec Inv-loop μ-loop (λ c. add-begin _ _) (λ c. search needs) (λ c. search needs) (λ c. search needs) (λ c. search needs)
-    (λ c. search needs) (λ c. search needs) (λ c. search needs) (λ c. search needs) (λ c. search add-turn) (λ c. search needs)
-    (λ c. search add-end))
+    (tie.spec Inv-loop μ-loop (λ c. fill-begin (added-length _ _)) (λ c. search needs) (λ c. search needs) (λ c. search needs) (λ c. search needs)
+    (λ c. search needs) (λ c. search needs) (λ c. search needs) (λ c. search needs) (λ c. search (fill-turn, added-length, added-at)) (λ c. search needs)
+    (λ c. search (fill-end, added-length)))

@@ -2,7 +2,7 @@
 use Prim.Native.Nat.{_-_}
 use lib.ListN.{length}
 use Rattle.cue_render.specs.Mix.{silence}
-use Rattle.cue_render.proofs.Fill.{Filling, clear-begin, clear-turn, clear-end}
+use Rattle.cue_render.proofs.Fill.{Filling, fill-begin, fill-turn, fill-end, silence-length, silence-at}
 use borrow.Author.Needs.{needs}
 use Rattle.cue_render.proofs.mix.clear.Statement.{statement}
 use Rattle.cue_render.proofs.mix.clear.Tie as tie
@@ -16,5 +16,5 @@ abbrev μ-loop : tie.MeasureT-loop
 pub clear-spec : {M : Type 1} → statement M
 clear-spec =
     tie.close
-    (tie.spec Inv-loop μ-loop (λ c. clear-begin _) (λ c. search needs) (λ c. search needs) (λ c. search needs) (λ c. search needs)
-    (λ c. search clear-turn) (λ c. search needs) (λ c. search clear-end))
+    (tie.spec Inv-loop μ-loop (λ c. fill-begin (silence-length _)) (λ c. search needs) (λ c. search needs) (λ c. search needs) (λ c. search needs)
+    (λ c. search (fill-turn, silence-length, silence-at)) (λ c. search needs) (λ c. search (fill-end, silence-length)))

@@ -50,9 +50,13 @@ module _ (a : Answer) (n : ℕ) (known : answerNumber a ≡ n) where
   pub suc-of : (r : Refusal) → a ≡ Refused r → n ≡ suc (n - 1)
   suc-of r e = let k : number r ≡ n = rw e at known in omega (arith, refused r .0)
 
--- a refused call leaves the value as it was
-pub arm-refused : {A : Type 0} (new old : A) (a : Answer) (n : ℕ) → answerNumber a ≡ n → (r : Refusal) → a ≡ Refused r → unlessRefused n new old ≡ old
-arm-refused new old a n known r e = rw (suc-of a n known r e)
+-- a call of this answer that leaves v, where the new value is expected: v is that value where it is accepted, and the old one where it is refused
+module _ {A : Type 0} (new old : A) (a : Answer) (n : ℕ) (known : answerNumber a ≡ n) where
+  pub arm-accepted : a ≡ Accepted → (v : A) → v ≡ new → (answerNumber a ≡ n) × (v ≡ unlessRefused n new old)
+  arm-accepted e v made = (known, rw (zero-of a n known e) made)
+
+  pub arm-refused : (r : Refusal) → a ≡ Refused r → (answerNumber a ≡ n) × (old ≡ unlessRefused n new old)
+  arm-refused r e = (known, rw (suc-of a n known r e))
 
 -- a nest of questions gives 0 exactly where each is passed
 pub passed : (q : Bool) (n next : ℕ) → 0 < n → ask q n next ≡ 0 → (q ≡ true) × (next ≡ 0)

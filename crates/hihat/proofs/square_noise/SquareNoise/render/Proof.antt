@@ -23,7 +23,6 @@ again c =
 
 pub render-spec : {M : Type 1} → statement M
 render-spec =
-    tie.close
-    (tie.spec Inv-loop μ-loop (λ c κs. search needs) (λ c. begin _ _ _ _ (omega arith)) (λ c κs. search needs) (λ c κs. search needs)
-    (λ c. search needs) (λ c. search needs) (λ c. search needs) (λ c. simp length-set (omega arith)) again (λ c. search needs)
+    tie.close (tie.spec Inv-loop μ-loop (λ c κs. tt) (λ c. begin _ _ _ _ (omega arith)) (λ c κs. tt) (λ c κs. tt) (λ c. search needs)
+    (λ c. search needs) (λ c. search needs) (λ c. simp length-set (omega arith)) again (λ c. search needs)
     (λ c. rw (← c .before .before .increments .ensures) (end-source _ _ _ _ _ _ (c .before .loop .inv) (c .loop-test .left))))

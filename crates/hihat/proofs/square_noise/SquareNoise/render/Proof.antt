@@ -4,8 +4,7 @@ use Prim.Native.Nat.{_-_}
 use native.Mathlib.Omega.{arith}
 use lib.ListN.{length, length-set}
 use Rattle.block.specs.Block.{source}
-use Rattle.block.proofs.Blocks.{Going, begin, end-source}
-use Rattle.block.proofs.Blocks.{turn as going}
+use Rattle.block.proofs.Blocks.{Going, begin, turn as going, end-source}
 use Rattle.hihat.specs.SquareNoise.{turn}
 use Rattle.hihat.proofs.square_noise.SquareNoise.render.Statement.{statement}
 use Rattle.hihat.proofs.square_noise.SquareNoise.render.Tie as tie

@@ -1,10 +1,9 @@
 -- From 3fcccccc on the pitch of a decay is 256 or more, so its ratio is held; that of 3fcccccb is at the last place of both tables, where the ratio is held.
-use mathlib.Core.Path.{_≡_, refl, sym, ap, _∙_}
+use mathlib.Core.Path.{_≡_, refl, ap}
 use mathlib.Core.Bool.{true, false}
 use Prim.Native.Nat.{ℕ, _+_, _*_}
 use native.Mathlib.Omega.{arith}
 use lib.Dec.{T, lit<}
-use lib.ListN.{length}
 use lib.IntN.{ℤ, pos, negsuc}
 use lib.Ieee.{Float, nan, inf, fin, binary32, up, down, round, ofBits, ofInt, toUnsigned, add, sub, mul, sum, le, lt}
 use lib.Ieee.Bits.{is-true}
@@ -17,29 +16,17 @@ use Rattle.refusal.specs.Refusal.{within, isBassDecay}
 use Rattle.units.specs.Units.{pitchOf, ratioAt, ratio}
 use Rattle.units.specs.Accuracy.{InTables}
 use Rattle.analog_bass_drum.specs.AnalogBassDrum.{settings, renderRefusal}
-use Rattle.analog_bass_drum.specs.declared.Knobs.{Knobs}
-use Rattle.analog_bass_drum.specs.HeldDecay.{firstPast, lastInTables, withDecay, decayPitch, IsPast, HeldDecay}
+use Rattle.analog_bass_drum.specs.HeldDecay.{firstPast, lastInTables, decayPitch, IsPast, HeldDecay}
 
 -- ---- the pitch: 80 times the first decay past the tables is 128 - 2 ^ -17, whose sum with 128 is rounded to 256; so is that of what is larger
-first-semitones : firstPast ⊗ decimal 80 0 ≡ fin false 16777215 (negsuc 16)
+computed : (firstPast ⊗ decimal 80 0 ≡ fin false 16777215 (negsuc 16)) × (decimal 128 0 ≡ fin false 1 (pos 7))
+    × (decimal 256 0 ≡ round binary32 false 33554431 131072)
 unfolding mul round ofBits
-first-semitones = refl
-
-whole-128 : decimal 128 0 ≡ fin false 1 (pos 7)
-unfolding round
-whole-128 = refl
-
-whole-256 : decimal 256 0 ≡ fin false 1 (pos 8)
-unfolding round
-whole-256 = refl
-
-to-256 : round binary32 false 33554431 131072 ≡ fin false 1 (pos 8)
-unfolding round
-to-256 = refl
+computed = (refl, refl, refl {a = fin false 1 (pos 8)})
 
 sum-is : (m : ℕ) (e : ℤ) → pitchOf (fin false m e) ≡ round binary32 false (m * up e * 1 + 128 * down e) (down e * 1)
 unfolding add sum
-sum-is m e = ap (add binary32 (fin false m e)) whole-128
+sum-is m e = ap (add binary32 (fin false m e)) (computed .1)
 
 past : (x : Float) → T (positive x) → T (le (fin false 16777215 (negsuc 16)) x) → T (le (decimal 256 0) (pitchOf x))
 past nan p l = absurd p
@@ -47,7 +34,7 @@ past (inf s) p l = absurd p
 past (fin true m e) p l = absurd p
 past (fin false m e) p l =
     let h = le→cross (fin false 16777215 (negsuc 16)) (fin false m e) tt p l in
-    rw (whole-256 ∙ sym to-256, sum-is m e)
+    rw (computed .2, sum-is m e)
     (round-mono binary32 33554431 131072 (m * up e * 1 + 128 * down e) (down e * 1) (lit< tt) (omega (arith, down-pos e)) (omega (arith, h)))
 
 last-passes : true ≡ isBassDecay lastInTables
@@ -64,32 +51,27 @@ unfolding round ofBits add mul le lt
 last-in = (tt, tt)
 
 module _ (decay : Float) (h : IsPast decay) where
-  low : T (le firstPast decay)
+  range : T (le firstPast decay) × T (le decay (decimal 2 0))
   unfolding within
-  low = and-l (le firstPast decay) (le decay (decimal 2 0)) h
-
-  high : T (le decay (decimal 2 0))
-  unfolding within
-  high = and-r (le firstPast decay) (le decay (decimal 2 0)) h
+  range = (and-l (le firstPast decay) (le decay (decimal 2 0)) h, and-r (le firstPast decay) (le decay (decimal 2 0)) h)
 
   some : T (positive decay)
   unfolding round ofBits
-  some = between firstPast decay (decimal 2 0) tt tt low high
+  some = between firstPast decay (decimal 2 0) tt tt (range .0) (range .1)
 
-  at-least : T (le (firstPast ⊗ decimal 80 0) (decay ⊗ decimal 80 0))
+  semitones : T (le (firstPast ⊗ decimal 80 0) (decay ⊗ decimal 80 0)) × T (le (decay ⊗ decimal 80 0) (decimal 2 0 ⊗ decimal 80 0))
   unfolding round ofBits le
-  at-least = mul-mono binary32 firstPast decay (decimal 80 0) (decimal 80 0) tt some tt tt low tt
-
-  at-most : T (le (decay ⊗ decimal 80 0) (decimal 2 0 ⊗ decimal 80 0))
-  unfolding round ofBits le
-  at-most = mul-mono binary32 decay (decimal 2 0) (decimal 80 0) (decimal 80 0) some tt tt tt high tt
+  semitones = (
+    mul-mono binary32 firstPast decay (decimal 80 0) (decimal 80 0) tt some tt tt (range .0) tt,
+    mul-mono binary32 decay (decimal 2 0) (decimal 80 0) (decimal 80 0) some tt tt tt (range .1) tt,
+  )
 
   beyond : T (le (decimal 256 0) (decayPitch decay))
   unfolding round ofBits mul
   beyond =
-      let semitones = decay ⊗ decimal 80 0 in
-      let positive-semitones = between (firstPast ⊗ decimal 80 0) semitones (decimal 2 0 ⊗ decimal 80 0) tt tt at-least at-most in
-      past semitones positive-semitones (rw first-semitones at at-least)
+      let low = semitones .0 in
+      let some-semitones = between (firstPast ⊗ decimal 80 0) (decay ⊗ decimal 80 0) (decimal 2 0 ⊗ decimal 80 0) tt tt low (semitones .1) in
+      past (decay ⊗ decimal 80 0) some-semitones (rw (computed .0) at low)
 
   held : ratio (decay ⊗ decimal 80 0) ≡ ratio (lastInTables ⊗ decimal 80 0)
   unfolding ratio
@@ -100,20 +82,12 @@ module _ (decay : Float) (h : IsPast decay) where
   passes =
       let zero = round-whole binary32 false 0 (omega arith) in
       let from-0 = le-of-values (decimal 0 0) decay 0 1 (num decay) (den decay) (lit< tt) (den-pos decay) zero (own-value decay some) (omega arith) in
-      rw (is-true (le (decimal 0 0) decay) from-0, is-true (le decay (decimal 2 0)) high) last-passes
-
-module _ (k : Knobs) (h : IsPast (k .decay)) where
-  settings-held : settings k ≡ settings (withDecay lastInTables k)
-  unfolding settings
-  settings-held = rw (held (k .decay) h)
-
-  same-number : (accent : Float) (n : ℕ) → renderRefusal accent k n ≡ renderRefusal accent (withDecay lastInTables k) n
-  unfolding renderRefusal
-  same-number accent n = rw (passes (k .decay) h)
+      rw (is-true (le (decimal 0 0) decay) from-0, is-true (le decay (decimal 2 0)) (range .1)) last-passes
 
 pub held-decay : HeldDecay
+unfolding settings renderRefusal
 held-decay = record {
   last = last-in;
   past = beyond;
-  same = λ v trigger accent k out h. rw (settings-held k h, same-number k h accent (length out));
+  same = λ v trigger accent k out h. rw (held (k .decay) h, passes (k .decay) h);
 }

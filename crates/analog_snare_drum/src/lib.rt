@@ -209,7 +209,8 @@ impl AnalogSnareDrum {
     // The loop over the block of an accepted call.
     fn run(self, noise: u32, settings: Settings, out: &mut [f32]) -> Rendered
         ensures number { λ r. ⌜ answerNumber (r .answer) ≡ 0 ⌝ }
-        ensures state { λ r. ⌜ noisy (r .voice) (r .noise) ≡ after (spec.step settings) (length (now (out .entry))) (noisy self noise) ⌝ }
+        ensures voice { λ r. ⌜ r .voice ≡ after (spec.step settings) (length (now (out .entry))) (noisy self noise) .voice ⌝ }
+        ensures noise { λ r. ⌜ r .noise ≡ after (spec.step settings) (length (now (out .entry))) (noisy self noise) .noise ⌝ }
         ensures out { λ _. ⌜ now (out .exit) ≡ samples (spec.step settings) (length (now (out .entry))) (noisy self noise) ⌝ }
     {
         let mut voice = self;

@@ -29,29 +29,22 @@ module _ (b : Settings) where
   unfolding metallic colored clocked amplified setHpf
   hpf-unseen = record { next = λ s x. refl; sample = λ s x. refl }
 
-  two-apart : Apart (source (metallic b)) colored
-  unfolding metallic colored
-  two-apart = record { unseen = λ y. record { next = λ s x. refl; sample = λ s x. refl }; sample = λ s x y. refl }
-
-  three-apart : Apart two (clocked b)
-  unfolding metallic colored clocked
-  three-apart = record { unseen = λ y. record { next = λ s x. refl; sample = λ s x. refl }; sample = λ s x y. refl }
-
-  four-apart : Apart three (amplified b)
-  unfolding metallic colored clocked amplified
-  four-apart = record { unseen = λ y. record { next = λ s x. refl; sample = λ s x. refl }; sample = λ s x y. refl }
-
-  five-apart : Apart four highPassed
+  apart : Apart (source (metallic b)) colored × Apart two (clocked b) × Apart three (amplified b) × Apart four highPassed
   unfolding metallic colored clocked amplified highPassed
-  five-apart = record { unseen = λ y. record { next = λ s x. refl; sample = λ s x. refl }; sample = λ s x y. refl }
+  apart = (
+    record { unseen = λ y. record { next = λ s x. refl; sample = λ s x. refl }; sample = λ s x y. refl },
+    record { unseen = λ y. record { next = λ s x. refl; sample = λ s x. refl }; sample = λ s x y. refl },
+    record { unseen = λ y. record { next = λ s x. refl; sample = λ s x. refl }; sample = λ s x y. refl },
+    record { unseen = λ y. record { next = λ s x. refl; sample = λ s x. refl }; sample = λ s x y. refl },
+  )
 
   pub five-passes : (p : Passed (Noisy Hihat)) → passes b p ≡ pass (step b) (setting (voiced (tuned b)) p)
   unfolding passes step
   five-passes p =
       let p₁ = setting (voiced (setColoration b)) p in
       let first = ap (setting (voiced (setColoration b))) (filled-pass (metallic b) p) ∙ set-before _ _ coloration-unseen p in
-      let second = ap (pass colored) first ∙ one-pass _ _ two-apart p₁ in
-      let third = ap (pass (clocked b)) second ∙ one-pass _ _ three-apart p₁ in
-      let fourth = ap (pass (amplified b)) third ∙ one-pass _ _ four-apart p₁ in
+      let second = ap (pass colored) first ∙ one-pass _ _ (apart .0) p₁ in
+      let third = ap (pass (clocked b)) second ∙ one-pass _ _ (apart .1) p₁ in
+      let fourth = ap (pass (amplified b)) third ∙ one-pass _ _ (apart .2) p₁ in
       let set = ap (setting (voiced (setHpf b))) fourth ∙ set-before _ _ hpf-unseen p₁ in
-      ap (pass highPassed) set ∙ one-pass _ _ five-apart (setting (voiced (setHpf b)) p₁)
+      ap (pass highPassed) set ∙ one-pass _ _ (apart .3) (setting (voiced (setHpf b)) p₁)

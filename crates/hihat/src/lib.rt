@@ -9,7 +9,6 @@ ghost use mathlib.Core.Bool.{cond};
 ghost use Prim.Native.Nat.{_≤_};
 ghost use lib.Ieee.{Float};
 ghost use Rattle.refusal.specs.Refusal.{answerNumber, noisy};
-ghost use Rattle.refusal.specs.declared.Answer.the-variants.{Accepted};
 ghost use Rattle.block.specs.Block.{scan, scanned};
 ghost use Rattle.ieee754.specs.Single.{_⊕_, _⊗_, decimal};
 ghost use Rattle.hihat.specs.Hihat as spec;
@@ -186,8 +185,9 @@ impl Hihat {
 
     // The loop over the block of an accepted call.
     fn run(self, noise: u32, settings: Settings, out: &mut [f32]) -> Rendered
-        ensures answer { λ r. ⌜ r .answer ≡ Accepted ⌝ }
-        ensures state { λ r. ⌜ noisy (r .voice) (r .noise) ≡ scanned (step settings) (noisy self noise) (now (out .entry)) ⌝ }
+        ensures number { λ r. ⌜ answerNumber (r .answer) ≡ 0 ⌝ }
+        ensures voice { λ r. ⌜ r .voice ≡ scanned (step settings) (noisy self noise) (now (out .entry)) .voice ⌝ }
+        ensures noise { λ r. ⌜ r .noise ≡ scanned (step settings) (noisy self noise) (now (out .entry)) .noise ⌝ }
         ensures out { λ _. ⌜ now (out .exit) ≡ scan (step settings) (noisy self noise) (now (out .entry)) ⌝ }
     {
         let mut voice = self;

@@ -8,7 +8,7 @@ use native.Mathlib.Decide.{decLe}
 use native.Mathlib.Omega.{arith}
 use lib.IntN.{ℤ, negsuc}
 use lib.Dec.{T, ltb, eqb, ltb→lt, lit<}
-use lib.Ieee.{Float, nan, inf, fin, Format, binary32, up, down, round, sum, add, sub, neg, lt, le}
+use lib.Ieee.{Float, nan, inf, fin, Format, binary32, up, down, round, add, sub, neg, lt, le}
 use lib.Ieee.Bits.{is-true}
 use lib.Ieee.Fits.{up-pos, down-pos, round-fits}
 use lib.Ieee.Order.{round-mono}
@@ -67,37 +67,30 @@ not-lt (fin false m e) y s h = fin-not-lt m m e e y (le-refl _) h
 
 -- ---- a / c less b / c, and a / c and b / c together
 module _ (f : Format) (a b c : ℕ) (C : 0 < c) (p : T (above (round f false (a + b) c))) where
-  abbrev less : Float
-  less = sum f false a true b c
-
   abbrev more : Float
   more = round f false (a + b) c
 
-  no-larger : T (le (round f false (a - b) c) more)
-  no-larger = round-mono f (a - b) c (a + b) c C C (mul-le-mul-right c (omega arith))
+  -- by whether a is below b
+  abbrev less : Bool → Float
+  less t = cond t (round f true (b - a) c) (round f false (a - b) c)
 
-  more-not-lt : lt more less ≡ false
-  unfolding sum
-  more-not-lt = not-lt more less (round-sign f false (a + b) c) (go (ltb a b))
-    where
-      go : (t : Bool) → T (le (cond t (round f true (b - a) c) (round f false (a - b) c)) more)
-      go true = minus-le (round f true (b - a) c) more (round-sign f true (b - a) c) p
-      go false = no-larger
+  no-larger : (t : Bool) → T (le (less t) more)
+  no-larger true = minus-le (less true) more (round-sign f true (b - a) c) p
+  no-larger false = round-mono f (a - b) c (a + b) c C C (mul-le-mul-right c (omega arith))
 
-  larger : cond (lt less more) more less ≡ more
-  unfolding sum le
-  larger = go (ltb a b)
+  more-not-lt : (t : Bool) → lt more (less t) ≡ false
+  more-not-lt t = not-lt more (less t) (round-sign f false (a + b) c) (no-larger t)
+
+  larger : (t : Bool) → cond (lt (less t) more) more (less t) ≡ more
+  unfolding le
+  larger true = rw (minus-lt (less true) more (round-sign f true (b - a) c) p)
+  larger false = chosen (lt (less false) more) (less false) (λ h.
+      equal-value f (less false) more (round-fits f false (a - b) c) (round-fits f false (a + b) c) (is-true _ (rw h at (no-larger false)))
+      (round-sign f false (a - b) c ∙ sym (round-sign f false (a + b) c)))
     where
       chosen : (t : Bool) (x : Float) → (t ≡ false → x ≡ more) → cond t more x ≡ more
       chosen true x h = refl
       chosen false x h = h refl
-
-      go : (t : Bool) → let x = cond t (round f true (b - a) c) (round f false (a - b) c) in cond (lt x more) more x ≡ more
-      go true = rw (minus-lt (round f true (b - a) c) more (round-sign f true (b - a) c) p)
-      go false =
-          chosen (lt (round f false (a - b) c) more) (round f false (a - b) c) (λ h.
-          equal-value f (round f false (a - b) c) more (round-fits f false (a - b) c) (round-fits f false (a + b) c) (is-true _ (rw h at no-larger))
-          (round-sign f false (a - b) c ∙ sym (round-sign f false (a + b) c)))
 
 -- ---- the two laws
 
@@ -157,5 +150,5 @@ unfolding round add sub neg lt abs
 one-plus-abs nan = refl
 one-plus-abs (inf true) = refl
 one-plus-abs (inf false) = refl
-one-plus-abs (fin false m e) = rw (more-not-lt binary32 (den m e) (num m e) (den m e) (den-pos m e) (one-more m e))
-one-plus-abs (fin true m e) = larger binary32 (den m e) (num m e) (den m e) (den-pos m e) (one-more m e)
+one-plus-abs (fin false m e) = rw (more-not-lt binary32 (den m e) (num m e) (den m e) (den-pos m e) (one-more m e) (ltb (den m e) (num m e)))
+one-plus-abs (fin true m e) = larger binary32 (den m e) (num m e) (den m e) (den-pos m e) (one-more m e) (ltb (den m e) (num m e))

@@ -7,7 +7,6 @@ ghost use lib.ListN.{length};
 ghost use Rattle.ieee754.specs.Single.{_⊕_, _⊖_, decimal};
 ghost use Rattle.ieee754.specs.Operations.{abs};
 ghost use Rattle.refusal.specs.Refusal.{answerNumber, noisy};
-ghost use Rattle.refusal.specs.declared.Answer.the-variants.{Accepted};
 ghost use Rattle.block.specs.Block.{samples, after};
 ghost use Rattle.synthetic_snare_drum.specs.SyntheticSnareDrum as spec;
 ghost use Rattle.synthetic_snare_drum.specs.Parts.{turned, enveloped};
@@ -189,7 +188,7 @@ impl SyntheticSnareDrum {
 
     // The loop over the block of an accepted call.
     fn run(self, mut noise: u32, settings: Settings, out: &mut [f32]) -> Rendered
-        ensures answer { λ r. ⌜ r .answer ≡ Accepted ⌝ }
+        ensures number { λ r. ⌜ answerNumber (r .answer) ≡ 0 ⌝ }
         ensures voice { λ r. let n = length (now (out .entry)) in ⌜ r .voice ≡ after (spec.step settings n) n (noisy self noise) .voice ⌝ }
         ensures noise { λ r. let n = length (now (out .entry)) in ⌜ r .noise ≡ after (spec.step settings n) n (noisy self noise) .noise ⌝ }
         ensures out { λ _. let n = length (now (out .entry)) in ⌜ now (out .exit) ≡ samples (spec.step settings n) n (noisy self noise) ⌝ }

@@ -1,5 +1,4 @@
 -- Line by line the definition.
-use borrow.Author.Needs.{needs}
 use lib.Ieee.{round, ofBits}
 use Rattle.analog_snare_drum.specs.AnalogSnareDrum.{tunedMode}
 use Rattle.analog_snare_drum.proofs.tuned_mode.Statement.{statement}
@@ -7,5 +6,4 @@ use Rattle.analog_snare_drum.proofs.tuned_mode.Tie as tie
 
 pub tuned-mode-spec : {M : Type 1} → statement M
 unfolding tunedMode round ofBits
-tuned-mode-spec =
-    tie.close (tie.spec (λ c κs. search needs) (λ c κs. search needs) (λ c. rw (c .set-f-q .ensures, c .before .minimum-number .ensures .0)))
+tuned-mode-spec = tie.close (tie.spec (λ c κs. tt) (λ c κs. tt) (λ c. rw (c .set-f-q .ensures, c .before .minimum-number .ensures .0)))

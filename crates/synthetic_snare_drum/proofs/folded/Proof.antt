@@ -8,5 +8,5 @@ use Rattle.synthetic_snare_drum.proofs.folded.Tie as tie
 pub folded-spec : {M : Type 1} → statement M
 unfolding round ofBits
 folded-spec =
-    tie.close
-    (tie.spec (λ c. rw (sym (folds (c .before .args .phase)) ∙ c .if1 .taken)) (λ c. rw (sym (folds (c .before .args .phase)) ∙ c .if1 .left)))
+    tie.close (tie.spec (λ c. rw (sym (folds (c .before .args .phase)) ∙ c .if1 .taken))
+    (λ c. rw (sym (folds (c .before .args .phase)) ∙ c .if1 .left)))

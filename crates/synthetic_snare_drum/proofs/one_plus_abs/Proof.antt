@@ -7,5 +7,5 @@ use Rattle.synthetic_snare_drum.proofs.one_plus_abs.Tie as tie
 pub one-plus-abs-spec : {M : Type 1} → statement M
 unfolding round ofBits
 one-plus-abs-spec =
-    tie.close
-    (tie.spec (λ c. rw (c .if1 .taken) at (one-plus-abs (c .before .args .x))) (λ c. rw (c .if1 .left) at (one-plus-abs (c .before .args .x))))
+    tie.close (tie.spec (λ c. rw (c .if1 .taken) at (one-plus-abs (c .before .args .x)))
+    (λ c. rw (c .if1 .left) at (one-plus-abs (c .before .args .x))))

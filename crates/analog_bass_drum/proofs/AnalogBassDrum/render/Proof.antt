@@ -5,20 +5,16 @@ use Rattle.refusal.proofs.ByNumber.{zero-of, suc-of}
 use Rattle.analog_bass_drum.proofs.AnalogBassDrum.render.Statement.{statement}
 use Rattle.analog_bass_drum.proofs.AnalogBassDrum.render.Tie as tie
 
-refused : tie.Need-returns
-refused c = let known = c .before .before .asked .ensures in (known, rw (suc-of _ _ known _ (c .enum-told .given .1)) (refl, refl))
-
 accepted : tie.Need-returns-2
 accepted c =
     let ran = c .before .before in
     let set = ran .before .before in
-    let asked = set .before .before .before .before in
-    let known = asked .asked .ensures in
+    let known = set .before .before .before .before .asked .ensures in
     let none = zero-of _ _ known (set .before .before .enum-told2 .given .1) in
     (known, rw (ran .run .ensures .0, ran .run .ensures .1, set .settings .ensures, set .before .triggered .ensures, none) (refl, refl))
 
 pub render-spec : {M : Type 1} → statement M
 render-spec =
-    tie.close
-    (tie.spec (λ c κs. search needs) (λ c. search needs) (λ c. search needs) (λ c κs. search needs) (λ c κs. search needs) (λ c κs. search needs) refused
+    tie.close (tie.spec (λ c κs. tt) (λ c. search needs) (λ c. search needs) (λ c κs. tt) (λ c κs. tt) (λ c κs. tt)
+    (λ c. let known = c .before .before .asked .ensures in (known, rw (suc-of _ _ known _ (c .enum-told .given .1)) (refl, refl)))
     (λ c. search needs) accepted)

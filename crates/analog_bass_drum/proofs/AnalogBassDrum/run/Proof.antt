@@ -5,8 +5,7 @@ use Prim.Native.Nat.{_-_}
 use native.Mathlib.Omega.{arith}
 use lib.ListN.{length, length-set}
 use Rattle.block.specs.Block.{source}
-use Rattle.block.proofs.Blocks.{Going, begin, end-source}
-use Rattle.block.proofs.Blocks.{turn as going}
+use Rattle.block.proofs.Blocks.{Going, begin, turn, end-source}
 use Rattle.analog_bass_drum.specs.AnalogBassDrum.{step}
 use Rattle.analog_bass_drum.proofs.Rest.{Kept, kept, sample-is}
 use Rattle.analog_bass_drum.proofs.AnalogBassDrum.run.Statement.{statement}
@@ -19,15 +18,12 @@ Inv-loop settings out₀ voice₀ e₀ at-rest₀ i₀ out voice e at-rest i =
 abbrev μ-loop : tie.MeasureT-loop
 μ-loop settings out₀ voice₀ e₀ at-rest₀ i₀ out voice e at-rest i = length out - i
 
-loop-holds : tie.Need-loop-holds Inv-loop μ-loop
-loop-holds c = (begin _ _ _ _ (omega arith), record { current = c .before .excitation .ensures; rest = c .is-at-rest .ensures .0 })
-
 -- a turn that makes the excitation anew, and one that keeps it
 made : tie.Need-loop-again Inv-loop μ-loop
 made c =
     let s = c .before .before .before in
     let l = s .before .before .loop in (
-      rw (s .step .ensures, sample-is) (going _ _ _ _ _ _ _ (l .inv .0) (omega (arith, l .inv .0 .long))),
+      rw (s .step .ensures, sample-is) (turn _ _ _ _ _ _ _ (l .inv .0) (omega (arith, l .inv .0 .long))),
       record { current = c .before .excitation2 .ensures; rest = c .is-at-rest2 .ensures .0 },
     )
 
@@ -35,10 +31,12 @@ keeps : tie.Need-loop-again-2 Inv-loop μ-loop
 keeps c =
     let s = c .before in
     let l = s .before .before .loop in
-    rw (s .step .ensures, sample-is) (going _ _ _ _ _ _ _ (l .inv .0) (omega (arith, l .inv .0 .long)), kept _ _ _ _ (not-false _ (c .if1 .left)) (l .inv .1))
+    rw (s .step .ensures, sample-is) (turn _ _ _ _ _ _ _ (l .inv .0) (omega (arith, l .inv .0 .long)), kept _ _ _ _ (not-false _ (c .if1 .left)) (l .inv .1))
 
 pub run-spec : {M : Type 1} → statement M
 run-spec =
-    tie.close (tie.spec Inv-loop μ-loop (λ c κs. search needs) (λ c κs. search needs) loop-holds (λ c κs. search needs) (λ c. search needs)
-    (λ c. search needs) (λ c. search needs) (λ c κs. search needs) (λ c κs. search needs) (λ c. simp length-set (omega arith)) made
-    (λ c. simp length-set (omega arith)) keeps (λ c. search needs) (λ c. end-source _ _ _ _ _ _ (c .before .loop .inv .0) (c .loop-test .left)))
+    tie.close (tie.spec Inv-loop μ-loop (λ c κs. tt) (λ c κs. tt)
+    (λ c. (begin _ _ _ _ (omega arith), record { current = c .before .excitation .ensures; rest = c .is-at-rest .ensures .0 })) (λ c κs. search needs)
+    (λ c. search needs) (λ c. search needs) (λ c. search needs) (λ c κs. tt) (λ c κs. tt) (λ c. simp length-set (omega arith)) made
+    (λ c. simp length-set (omega arith)) keeps (λ c. search needs)
+    (λ c. end-source _ _ _ _ _ _ (c .before .loop .inv .0) (c .loop-test .left)))

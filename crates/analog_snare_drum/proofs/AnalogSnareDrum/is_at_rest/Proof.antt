@@ -1,5 +1,4 @@
 -- The question that fails names the part of the excitation that moves; the last one decides where the others hold.
-use borrow.Author.Needs.{needs}
 use borrow.Author.Tests.{not-false}
 use mathlib.Core.Bool.{false≢true}
 use Rattle.analog_snare_drum.proofs.AnalogSnareDrum.is_at_rest.Statement.{statement}
@@ -13,10 +12,5 @@ returns-3 c =
 
 pub is-at-rest-spec : {M : Type 1} → statement M
 is-at-rest-spec =
-    tie.close
-    (tie.spec
-    (λ c. (λ h. absurd (false≢true h), λ r. absurd (c .if1 .taken (r .remaining))))
-    (λ c κs. search needs)
-    (λ c. (λ h. absurd (false≢true h), λ r. rw (c .before .is-same .ensures .1 (r .pulse)) at (c .if2 .taken)))
-    (λ c κs. search needs)
-    returns-3)
+    tie.close (tie.spec (λ c. (λ h. absurd (false≢true h), λ r. absurd (c .if1 .taken (r .remaining)))) (λ c κs. tt)
+    (λ c. (λ h. absurd (false≢true h), λ r. rw (c .before .is-same .ensures .1 (r .pulse)) at (c .if2 .taken))) (λ c κs. tt) returns-3)

@@ -7,8 +7,7 @@ use mathlib.Core.Path.{refl, sym, subst}
 use lib.ListN.{length, length-set}
 use Rattle.refusal.specs.Refusal.{Noisy, noisy}
 use Rattle.block.specs.Block.{source}
-use Rattle.block.proofs.Blocks.{Going, begin, end-source}
-use Rattle.block.proofs.Blocks.{turn as going}
+use Rattle.block.proofs.Blocks.{Going, begin, turn, end-source}
 use Rattle.analog_snare_drum.specs.AnalogSnareDrum.{step}
 use Rattle.analog_snare_drum.specs.declared.AnalogSnareDrum.{AnalogSnareDrum}
 use Rattle.analog_snare_drum.proofs.Rest.{Kept, kept}
@@ -22,15 +21,12 @@ Inv-loop noise settings out₀ voice₀ state₀ e₀ at-rest₀ i₀ out voice 
 abbrev μ-loop : tie.MeasureT-loop
 μ-loop noise settings out₀ voice₀ state₀ e₀ at-rest₀ i₀ out voice state e at-rest i = length out - i
 
-loop-holds : tie.Need-loop-holds Inv-loop μ-loop
-loop-holds c = (begin _ _ _ _ (omega arith), record { current = c .before .excitation .ensures; rest = c .is-at-rest .ensures .0 })
-
 -- a turn that makes the excitation anew, and one that keeps it
 made : tie.Need-loop-again Inv-loop μ-loop
 made c =
     let s = c .before .before .before .before in
     let l = s .before .before .loop in (
-      rw (s .step .ensures .0, s .step .ensures .1) (going _ _ _ _ _ _ _ (l .inv .0) (omega (arith, l .inv .0 .long))),
+      rw (s .step .ensures .0, s .step .ensures .1) (turn _ _ _ _ _ _ _ (l .inv .0) (omega (arith, l .inv .0 .long))),
       record { current = c .before .excitation2 .ensures; rest = c .is-at-rest2 .ensures .0 },
     )
 
@@ -39,12 +35,14 @@ keeps c =
     let s = c .before .before in
     let l = s .before .before .loop in
     let next = s .step .ensures .0 in (
-      rw (next, s .step .ensures .1) (going _ _ _ _ _ _ _ (l .inv .0) (omega (arith, l .inv .0 .long))),
+      rw (next, s .step .ensures .1) (turn _ _ _ _ _ _ _ (l .inv .0) (omega (arith, l .inv .0 .long))),
       subst (λ (t : Noisy AnalogSnareDrum). Kept (t .voice) (l .e) (l .at-rest)) (sym next) (kept _ _ _ _ (not-false _ (c .if1 .left)) (l .inv .1)),
     )
 
 pub run-spec : {M : Type 1} → statement M
 run-spec =
-    tie.close (tie.spec Inv-loop μ-loop (λ c κs. search needs) (λ c κs. search needs) loop-holds (λ c κs. search needs) (λ c. search needs)
-    (λ c. search needs) (λ c. search needs) (λ c κs. search needs) (λ c κs. search needs) (λ c. simp length-set (omega arith)) made
-    (λ c. simp length-set (omega arith)) keeps (λ c. search needs) (λ c. (refl, end-source _ _ _ _ _ _ (c .before .loop .inv .0) (c .loop-test .left))))
+    tie.close (tie.spec Inv-loop μ-loop (λ c κs. tt) (λ c κs. tt)
+    (λ c. (begin _ _ _ _ (omega arith), record { current = c .before .excitation .ensures; rest = c .is-at-rest .ensures .0 })) (λ c κs. search needs)
+    (λ c. search needs) (λ c. search needs) (λ c. search needs) (λ c κs. tt) (λ c κs. tt) (λ c. simp length-set (omega arith)) made
+    (λ c. simp length-set (omega arith)) keeps (λ c. search needs)
+    (λ c. let e = end-source _ _ _ _ _ _ (c .before .loop .inv .0) (c .loop-test .left) in (refl, (rw (← e .0), (rw (← e .0), e .1)))))

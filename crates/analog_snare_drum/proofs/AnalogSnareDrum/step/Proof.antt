@@ -1,5 +1,4 @@
 -- Line by line the turn, the last call first; the excitation is the one that the caller kept.
-use borrow.Author.Needs.{needs}
 use mathlib.Core.Path.{refl}
 use lib.Ieee.{round, ofBits}
 use Rattle.analog_snare_drum.specs.AnalogSnareDrum.{step}
@@ -7,14 +6,10 @@ use Rattle.analog_snare_drum.specs.Excitation.{excitation}
 use Rattle.analog_snare_drum.proofs.AnalogSnareDrum.step.Statement.{statement}
 use Rattle.analog_snare_drum.proofs.AnalogSnareDrum.step.Tie as tie
 
-returns : tie.Need-returns
-unfolding step excitation round ofBits
-returns c =
-    let filtered = c .before .before .before .before .before in
-    let drawn = filtered .before .before .before .before in
-    let draw = drawn .before .before in
-    let shell = draw .before in
-    rw (filtered .process .ensures, drawn .not-negative .ensures, draw .get-float .ensures, shell .shell-output .ensures, shell .before .pre) (refl, refl)
-
 pub step-spec : {M : Type 1} → statement M
-step-spec = tie.close (tie.spec (λ c κs. search needs) (λ c κs. search needs) (λ c κs. search needs) (λ c κs. search needs) returns)
+unfolding step excitation round ofBits
+step-spec =
+    tie.close (tie.spec (λ c κs. tt) (λ c κs. tt) (λ c κs. tt) (λ c κs. tt)
+    (λ c. let drawn = c .before .before .before .before .before .before .before .before .before in let shell = drawn .before .before .before in
+    rw (c .before .before .before .before .before .process .ensures, drawn .not-negative .ensures, drawn .before .before .get-float .ensures)
+    (rw (shell .shell-output .ensures, shell .before .pre) (refl, refl))))

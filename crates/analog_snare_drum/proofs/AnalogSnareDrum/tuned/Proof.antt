@@ -5,20 +5,12 @@ use Rattle.analog_snare_drum.specs.AnalogSnareDrum.{tuned, «MODE_FREQUE
 use Rattle.analog_snare_drum.proofs.AnalogSnareDrum.tuned.Statement.{statement}
 use Rattle.analog_snare_drum.proofs.AnalogSnareDrum.tuned.Tie as tie
 
-returns : tie.Need-returns
-unfolding tuned «MODE_FREQUENCIES» round ofBits
-returns c =
-    let c₁ = c .before .before in
-    let c₂ = c₁ .before .before in
-    let c₃ = c₂ .before .before in
-    let c₄ = c₃ .before .before in
-    let c₅ = c₄ .before .before in
-    rw (c .set-f-q .ensures, c .before .clamp .ensures, c₁ .tuned-mode5 .ensures, c₂ .tuned-mode4 .ensures, c₃ .tuned-mode3 .ensures)
-    (rw (c₄ .tuned-mode2 .ensures, c₅ .tuned-mode .ensures))
-
 pub tuned-spec : {M : Type 1} → statement M
+unfolding tuned «MODE_FREQUENCIES» round ofBits
 tuned-spec =
-    tie.close
-    (tie.spec (λ c. search needs) (λ c. search needs) (λ c κs. search needs) (λ c. search needs) (λ c. search needs) (λ c κs. search needs)
-    (λ c. search needs) (λ c. search needs) (λ c κs. search needs) (λ c. search needs) (λ c. search needs) (λ c κs. search needs) (λ c. search needs)
-    (λ c. search needs) (λ c κs. search needs) (λ c κs. search needs) (λ c κs. search needs) returns)
+    tie.close (tie.spec (λ c. search needs) (λ c. search needs) (λ c κs. tt) (λ c. search needs) (λ c. search needs) (λ c κs. tt)
+    (λ c. search needs) (λ c. search needs) (λ c κs. tt) (λ c. search needs) (λ c. search needs) (λ c κs. tt) (λ c. search needs)
+    (λ c. search needs) (λ c κs. tt) (λ c κs. tt) (λ c κs. tt)
+    (λ c. let fifth = c .before .before in let third = fifth .before .before .before .before in
+    rw (c .set-f-q .ensures, c .before .clamp .ensures, fifth .tuned-mode5 .ensures, fifth .before .before .tuned-mode4 .ensures)
+    (rw (third .tuned-mode3 .ensures, third .before .before .tuned-mode2 .ensures, third .before .before .before .before .tuned-mode .ensures))))

@@ -6,9 +6,6 @@ use Rattle.analog_bass_drum.specs.AnalogBassDrum.{ZERO}
 use Rattle.console.proofs.bass.bechullpi_analog_bass_drum_zero.Statement.{statement}
 use Rattle.console.proofs.bass.bechullpi_analog_bass_drum_zero.Tie as tie
 
-returns : tie.Need-returns
-unfolding ZERO Svf.ZERO round ofBits mul toUnsigned
-returns c = refl
-
 pub bechullpi-analog-bass-drum-zero-spec : {M : Type 1} → statement M
-bechullpi-analog-bass-drum-zero-spec = tie.close (tie.spec returns)
+unfolding ZERO Svf.ZERO round ofBits mul toUnsigned
+bechullpi-analog-bass-drum-zero-spec = tie.close (tie.spec (λ c. refl))

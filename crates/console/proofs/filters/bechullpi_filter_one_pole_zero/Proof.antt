@@ -5,9 +5,6 @@ use Rattle.filter.specs.OnePole as OnePole
 use Rattle.console.proofs.filters.bechullpi_filter_one_pole_zero.Statement.{statement}
 use Rattle.console.proofs.filters.bechullpi_filter_one_pole_zero.Tie as tie
 
-returns : tie.Need-returns
-unfolding OnePole.ZERO round ofBits
-returns c = refl
-
 pub bechullpi-filter-one-pole-zero-spec : {M : Type 1} → statement M
-bechullpi-filter-one-pole-zero-spec = tie.close (tie.spec returns)
+unfolding OnePole.ZERO round ofBits
+bechullpi-filter-one-pole-zero-spec = tie.close (tie.spec (λ c. refl))

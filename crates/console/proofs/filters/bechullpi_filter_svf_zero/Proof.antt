@@ -5,9 +5,6 @@ use Rattle.filter.specs.Svf as Svf
 use Rattle.console.proofs.filters.bechullpi_filter_svf_zero.Statement.{statement}
 use Rattle.console.proofs.filters.bechullpi_filter_svf_zero.Tie as tie
 
-returns : tie.Need-returns
-unfolding Svf.ZERO round ofBits
-returns c = refl
-
 pub bechullpi-filter-svf-zero-spec : {M : Type 1} → statement M
-bechullpi-filter-svf-zero-spec = tie.close (tie.spec returns)
+unfolding Svf.ZERO round ofBits
+bechullpi-filter-svf-zero-spec = tie.close (tie.spec (λ c. refl))

@@ -11,4 +11,4 @@ returns c =
     (c .number .ensures ∙ r .0, r .1)
 
 pub bechullpi-hihat-render-spec : {M : Type 1} → statement M
-bechullpi-hihat-render-spec = tie.close (tie.spec (λ c κs. search needs) (λ c κs. search needs) (λ c κs. search needs) (λ c. search needs) returns)
+bechullpi-hihat-render-spec = tie.close (tie.spec (λ c κs. tt) (λ c κs. tt) (λ c κs. tt) (λ c. search needs) returns)

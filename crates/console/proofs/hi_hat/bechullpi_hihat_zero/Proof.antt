@@ -6,9 +6,6 @@ use Rattle.hihat.specs.Hihat.{ZERO}
 use Rattle.console.proofs.hi_hat.bechullpi_hihat_zero.Statement.{statement}
 use Rattle.console.proofs.hi_hat.bechullpi_hihat_zero.Tie as tie
 
-returns : tie.Need-returns
-unfolding ZERO Svf.ZERO round ofBits
-returns c = refl
-
 pub bechullpi-hihat-zero-spec : {M : Type 1} → statement M
-bechullpi-hihat-zero-spec = tie.close (tie.spec returns)
+unfolding ZERO Svf.ZERO round ofBits
+bechullpi-hihat-zero-spec = tie.close (tie.spec (λ c. refl))

@@ -19,6 +19,5 @@ returns-2 c =
 
 pub bechullpi-sheet-spec : {M : Type 1} → statement M
 bechullpi-sheet-spec =
-    tie.close
-    (tie.spec (λ c κs. search needs) (λ c. search needs) (λ c. search needs) (λ c κs. search needs) (λ c. search needs) returns
-    (λ c. search needs) returns-2)
+    tie.close (tie.spec (λ c κs. tt) (λ c. search needs) (λ c. search needs) (λ c κs. tt) (λ c. search needs) returns (λ c. search needs)
+    returns-2)

@@ -6,9 +6,6 @@ use Rattle.analog_snare_drum.specs.AnalogSnareDrum.{ZERO}
 use Rattle.console.proofs.snare.bechullpi_analog_snare_drum_zero.Statement.{statement}
 use Rattle.console.proofs.snare.bechullpi_analog_snare_drum_zero.Tie as tie
 
-returns : tie.Need-returns
-unfolding ZERO Svf.ZERO round ofBits
-returns c = refl
-
 pub bechullpi-analog-snare-drum-zero-spec : {M : Type 1} → statement M
-bechullpi-analog-snare-drum-zero-spec = tie.close (tie.spec returns)
+unfolding ZERO Svf.ZERO round ofBits
+bechullpi-analog-snare-drum-zero-spec = tie.close (tie.spec (λ c. refl))

@@ -7,9 +7,6 @@ use Rattle.synthetic_snare_drum.specs.SyntheticSnareDrum.{ZERO}
 use Rattle.console.proofs.synthetic_snare.bechullpi_synthetic_snare_drum_zero.Statement.{statement}
 use Rattle.console.proofs.synthetic_snare.bechullpi_synthetic_snare_drum_zero.Tie as tie
 
-returns : tie.Need-returns
-unfolding ZERO Svf.ZERO OnePole.ZERO round ofBits
-returns c = refl
-
 pub bechullpi-synthetic-snare-drum-zero-spec : {M : Type 1} → statement M
-bechullpi-synthetic-snare-drum-zero-spec = tie.close (tie.spec returns)
+unfolding ZERO Svf.ZERO OnePole.ZERO round ofBits
+bechullpi-synthetic-snare-drum-zero-spec = tie.close (tie.spec (λ c. refl))

@@ -8,8 +8,7 @@ use mathlib.Core.List.{append-nil}
 use lib.Seq.{drop-length}
 use lib.Ieee.{nan}
 use Rattle.block.specs.Block.{Turn}
-use Rattle.block.proofs.Blocks.{Going, begin, end}
-use Rattle.block.proofs.Blocks.{turn as going}
+use Rattle.block.proofs.Blocks.{Going, begin, turn, end}
 use Rattle.refusal.specs.Refusal.{Noisy, noisy}
 use Rattle.hihat.specs.declared.Hihat.{Hihat}
 use Rattle.hihat.specs.OnePass.{step}
@@ -27,15 +26,14 @@ again c =
     let l = c .before .before .before in
     let e = c .before .step .ensures (getD (l .before .before .args .out .now) (l .loop .i) nan) in
     rw (ap (λ (t : Turn (Noisy Hihat)). t .next) e, ap (λ (t : Turn (Noisy Hihat)). t .sample) e)
-    (going _ _ _ _ _ _ _ (l .loop .inv) (omega (arith, l .loop .inv .long)))
+    (turn _ _ _ _ _ _ _ (l .loop .inv) (omega (arith, l .loop .inv .long)))
 
 returns : tie.Need-returns Inv-loop μ-loop
 returns c =
     let e = end _ _ _ _ _ _ _ (c .before .loop .inv) (omega (arith, c .before .loop .inv .long, c .loop-test .left)) in
-    (refl, (e .0, simp (drop-length, append-nil) at (e .1)))
+    (refl, (rw (← e .0), (rw (← e .0), simp (drop-length, append-nil) at (e .1))))
 
 pub run-spec : {M : Type 1} → statement M
 run-spec =
-    tie.close
-    (tie.spec Inv-loop μ-loop (λ c. begin _ _ _ _ (omega arith)) (λ c κs. search needs) (λ c. search needs) (λ c. search needs) (λ c. search needs)
-    (λ c. simp length-set (omega arith)) again (λ c. search needs) returns)
+    tie.close (tie.spec Inv-loop μ-loop (λ c. begin _ _ _ _ (omega arith)) (λ c κs. tt) (λ c. search needs) (λ c. search needs)
+    (λ c. search needs) (λ c. simp length-set (omega arith)) again (λ c. search needs) returns)

@@ -7,5 +7,4 @@ use Rattle.hihat.proofs.Hihat.triggered.Tie as tie
 pub triggered-spec : {M : Type 1} → statement M
 unfolding triggered round ofBits
 triggered-spec =
-    tie.close
-    (tie.spec (λ c. let at-test = c .before .before .before .before .before in rw (at-test .if1 .taken)) (λ c. rw (c .if1 .left)))
+    tie.close (tie.spec (λ c. let at-test = c .before .before .before .before .before in rw (at-test .if1 .taken)) (λ c. rw (c .if1 .left)))

@@ -1,5 +1,4 @@
 -- The definition's two arms, by whether the frequency is held.
-use borrow.Author.Needs.{needs}
 use lib.Ieee.{round, ofBits}
 use Rattle.hihat.specs.SquareNoise.{increment}
 use Rattle.hihat.proofs.square_noise.increment_at.Statement.{statement}
@@ -8,6 +7,5 @@ use Rattle.hihat.proofs.square_noise.increment_at.Tie as tie
 pub increment-at-spec : {M : Type 1} → statement M
 unfolding increment round ofBits
 increment-at-spec =
-    tie.close
-    (tie.spec (λ c κs. search needs) (λ c. rw (c .before .if1 .taken) (c .truncate-u32 .ensures)) (λ c κs. search needs)
+    tie.close (tie.spec (λ c κs. tt) (λ c. rw (c .before .if1 .taken) (c .truncate-u32 .ensures)) (λ c κs. tt)
     (λ c. rw (c .before .if1 .left) (c .truncate-u322 .ensures)))

@@ -1,26 +1,12 @@
 -- The first question is asked last.
-use borrow.Author.Needs.{needs}
 use Rattle.synthetic_snare_drum.specs.SyntheticSnareDrum.{renderRefusal}
 use Rattle.synthetic_snare_drum.proofs.Knobs.asked.Statement.{statement}
 use Rattle.synthetic_snare_drum.proofs.Knobs.asked.Tie as tie
 
-returns : tie.Need-returns
-unfolding renderRefusal
-returns c =
-    let accents = c .before .before .before in
-    let knobs = accents .before in
-    rw (
-      c .ask-sample-rate .ensures,
-      c .before .ask-block-length .ensures,
-      c .before .before .ask-frequency .ensures,
-      accents .ask-accent .ensures,
-      knobs .ask-knob3 .ensures,
-      knobs .before .ask-knob2 .ensures,
-      knobs .before .before .ask-knob .ensures,
-    )
-
 pub asked-spec : {M : Type 1} → statement M
+unfolding renderRefusal
 asked-spec =
-    tie.close
-    (tie.spec (λ c κs. search needs) (λ c κs. search needs) (λ c κs. search needs) (λ c κs. search needs) (λ c κs. search needs)
-    (λ c κs. search needs) (λ c κs. search needs) returns)
+    tie.close (tie.spec (λ c κs. tt) (λ c κs. tt) (λ c κs. tt) (λ c κs. tt) (λ c κs. tt) (λ c κs. tt) (λ c κs. tt)
+    (λ c. let f0 = c .before .before in let amount = f0 .before .before in
+    rw (c .ask-sample-rate .ensures, c .before .ask-block-length .ensures, f0 .ask-frequency .ensures, f0 .before .ask-accent .ensures)
+    (rw (amount .ask-knob3 .ensures, amount .before .ask-knob2 .ensures, amount .before .before .ask-knob .ensures))))

@@ -23,10 +23,8 @@ again c =
     let l = c .before .before .before .loop in
     rw (c .before .step .ensures _) at (turn _ _ _ _ _ _ _ (l .inv) (omega (arith, l .inv .long)))
 
-returns : tie.Need-returns Inv-loop μ-loop
-returns c = let e = end-source _ _ _ _ _ _ (c .before .loop .inv) (c .loop-test .left) in (refl, (rw (← e .0), (rw (← e .0), e .1)))
-
 pub run-spec : {M : Type 1} → statement M
 run-spec =
-    tie.close (tie.spec Inv-loop μ-loop (λ c. begin _ _ _ _ (omega arith)) (λ c κs. search needs) (λ c. search needs) (λ c. search needs)
-    (λ c. search needs) (λ c. simp length-set (omega arith)) again (λ c. search needs) returns)
+    tie.close (tie.spec Inv-loop μ-loop (λ c. begin _ _ _ _ (omega arith)) (λ c κs. tt) (λ c. search needs) (λ c. search needs)
+    (λ c. search needs) (λ c. simp length-set (omega arith)) again (λ c. search needs)
+    (λ c. let e = end-source _ _ _ _ _ _ (c .before .loop .inv) (c .loop-test .left) in (refl, (rw (← e .0), (rw (← e .0), e .1)))))

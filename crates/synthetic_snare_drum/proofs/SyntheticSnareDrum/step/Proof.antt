@@ -18,15 +18,11 @@ returns c size =
     let at-signs = at-resets .before .before .before .before in
     let at-clamp = at-signs .before .before .before in
     rw (at-high .process3 .ensures, at-low .process2 .ensures, at-draw .get-float .ensures, at-draw .before .process .ensures)
-    (rw (at-sines .distorted-sine2 .ensures, at-sines .before .distorted-sine .ensures)
-    (rw (at-resets .reset2 .ensures, at-resets .before .reset .ensures)
-    (rw (at-signs .reset-sign2 .ensures, at-signs .before .reset-sign .ensures)
-    (rw (at-clamp .clamp .ensures, at-clamp .before .before .before .before .enveloped .ensures)
-    (rw always-decays)))))
+    (rw (at-sines .distorted-sine2 .ensures, at-sines .before .distorted-sine .ensures, at-resets .reset2 .ensures, at-resets .before .reset .ensures)
+    (rw (at-signs .reset-sign2 .ensures, at-signs .before .reset-sign .ensures, at-clamp .clamp .ensures)
+    (rw (at-clamp .before .before .before .before .enveloped .ensures, always-decays))))
 
 pub step-spec : {M : Type 1} → statement M
 step-spec =
-    tie.close
-    (tie.spec (λ c κs. search needs) (λ c. search needs) (λ c. search needs) (λ c κs. search needs) (λ c κs. search needs)
-    (λ c κs. search needs) (λ c κs. search needs) (λ c κs. search needs) (λ c κs. search needs) (λ c κs. search needs)
-    (λ c κs. search needs) (λ c κs. search needs) (λ c κs. search needs) (λ c κs. search needs) returns)
+    tie.close (tie.spec (λ c κs. tt) (λ c. search needs) (λ c. search needs) (λ c κs. tt) (λ c κs. tt) (λ c κs. tt) (λ c κs. tt)
+    (λ c κs. tt) (λ c κs. tt) (λ c κs. tt) (λ c κs. tt) (λ c κs. tt) (λ c κs. tt) (λ c κs. tt) returns)

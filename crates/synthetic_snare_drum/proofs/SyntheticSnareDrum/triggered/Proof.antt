@@ -1,5 +1,4 @@
 -- Line by line the definition.
-use borrow.Author.Needs.{needs}
 use lib.Ieee.{round, ofBits}
 use Rattle.synthetic_snare_drum.specs.SyntheticSnareDrum.{triggered}
 use Rattle.synthetic_snare_drum.proofs.SyntheticSnareDrum.triggered.Statement.{statement}
@@ -7,4 +6,4 @@ use Rattle.synthetic_snare_drum.proofs.SyntheticSnareDrum.triggered.Tie
 
 pub triggered-spec : {M : Type 1} → statement M
 unfolding triggered round ofBits
-triggered-spec = tie.close (tie.spec (λ c κs. search needs) (λ c. rw (c .before .before .before .truncate-u32 .ensures)))
+triggered-spec = tie.close (tie.spec (λ c κs. tt) (λ c. rw (c .before .before .before .truncate-u32 .ensures)))

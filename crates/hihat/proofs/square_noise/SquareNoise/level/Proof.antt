@@ -1,5 +1,4 @@
 -- A key is the count, and where there is none it is 6.
-use borrow.Author.Needs.{needs}
 use mathlib.Core.Path.{_≡_}
 use native.Mathlib.Omega.{arith}
 use lib.Ieee.{round, ofBits, ofInt}
@@ -7,15 +6,11 @@ use Rattle.hihat.specs.SquareNoise.{level}
 use Rattle.hihat.proofs.square_noise.SquareNoise.level.Statement.{statement}
 use Rattle.hihat.proofs.square_noise.SquareNoise.level.Tie as tie
 
-rest : tie.Need-returns-7
-unfolding level round ofBits ofInt
-rest c = let six : c .before .count-high .result ≡ 6 = omega arith in rw (← c .before .count-high .ensures .0, six)
-
 pub level-spec : {M : Type 1} → statement M
 unfolding level round ofBits ofInt
 level-spec =
-    tie.close
-    (tie.spec (λ c κs. search needs) (λ c. rw (← c .before .count-high .ensures .0, c .match .keys1))
+    tie.close (tie.spec (λ c κs. tt) (λ c. rw (← c .before .count-high .ensures .0, c .match .keys1))
     (λ c. rw (← c .before .count-high .ensures .0, c .match .keys2)) (λ c. rw (← c .before .count-high .ensures .0, c .match .keys3))
     (λ c. rw (← c .before .count-high .ensures .0, c .match .keys4)) (λ c. rw (← c .before .count-high .ensures .0, c .match .keys5))
-    (λ c. rw (← c .before .count-high .ensures .0, c .match .keys6)) rest)
+    (λ c. rw (← c .before .count-high .ensures .0, c .match .keys6))
+    (λ c. let six : c .before .count-high .result ≡ 6 = omega arith in rw (← c .before .count-high .ensures .0, six)))

@@ -4,8 +4,7 @@ use Prim.Native.Nat.{_-_}
 use native.Mathlib.Omega.{arith}
 use lib.ListN.{length, length-set}
 use Rattle.block.specs.Block.{source}
-use Rattle.block.proofs.Blocks.{Going, begin, end-source}
-use Rattle.block.proofs.Blocks.{turn as going}
+use Rattle.block.proofs.Blocks.{Going, begin, turn as going, end-source}
 use Rattle.hihat.specs.SquareNoise.{turn}
 use Rattle.hihat.proofs.square_noise.SquareNoise.render.Statement.{statement}
 use Rattle.hihat.proofs.square_noise.SquareNoise.render.Tie as tie
@@ -23,7 +22,6 @@ again c =
 
 pub render-spec : {M : Type 1} → statement M
 render-spec =
-    tie.close
-    (tie.spec Inv-loop μ-loop (λ c κs. search needs) (λ c. begin _ _ _ _ (omega arith)) (λ c κs. search needs) (λ c κs. search needs)
-    (λ c. search needs) (λ c. search needs) (λ c. search needs) (λ c. simp length-set (omega arith)) again (λ c. search needs)
+    tie.close (tie.spec Inv-loop μ-loop (λ c κs. tt) (λ c. begin _ _ _ _ (omega arith)) (λ c κs. tt) (λ c κs. tt) (λ c. search needs)
+    (λ c. search needs) (λ c. search needs) (λ c. simp length-set (omega arith)) again (λ c. search needs)
     (λ c. rw (← c .before .before .increments .ensures) (end-source _ _ _ _ _ _ (c .before .loop .inv) (c .loop-test .left))))

@@ -1,5 +1,4 @@
 -- The definition's two arms, by the clock.
-use borrow.Author.Needs.{needs}
 use lib.Ieee.{round, ofBits}
 use Rattle.hihat.specs.Hihat.{clocked}
 use Rattle.hihat.proofs.turn.Turn.clocked.Statement.{statement}
@@ -8,7 +7,6 @@ use Rattle.hihat.proofs.turn.Turn.clocked.Tie as tie
 pub clocked-spec : {M : Type 1} → statement M
 unfolding clocked round ofBits
 clocked-spec =
-    tie.close
-    (tie.spec (λ c κs. search needs)
+    tie.close (tie.spec (λ c κs. tt)
     (λ c. let drawn = c .before .before .before .before .before in rw (drawn .get-float .ensures, drawn .before .if1 .taken))
     (λ c. rw (c .before .before .before .before .before .if1 .left)))

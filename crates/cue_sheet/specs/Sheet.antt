@@ -1,14 +1,12 @@
 -- A cue sheet: its first line, the walk over the lines after it, the judgment, and the cues. Definitions only.
 use Prim.Native.Nat.{ℕ, _+_, _%_, _^_}
-use mathlib.Core.Bool.{cond, _&&_}
+use mathlib.Core.Bool.{_&&_}
 use mathlib.Core.List.{List, [], _∷_}
 use lib.Dec.{leb}
 use lib.ListN as List
 use lib.ListN.{drop}
 use Rattle.text.specs.Read.{ended, body, field, hasFields, decimal, lines, lineAt}
-use Rattle.text.specs.declared.read.Number.{Number}
-use Rattle.text.specs.declared.read.Number.the-variants.{Value, Invalid}
-use Rattle.cue_sheet.specs.Answer.{number, Told, says, refused}
+use Rattle.cue_sheet.specs.Answer.{number, Told, says, refused, ask, valid, value}
 use Rattle.cue_sheet.specs.CueLine.{Strike, readCue}
 use Rattle.cue_sheet.specs.declared.Head.{Head}
 use Rattle.cue_sheet.specs.declared.FirstLine.{FirstLine}
@@ -17,22 +15,18 @@ use Rattle.cue_sheet.specs.declared.Walk.{Walk}
 use Rattle.cue_sheet.specs.declared.Judgment.{Judgment}
 use Rattle.cue_sheet.specs.declared.Judgment.the-variants.{Accepted, Refused}
 
--- ---- the first line, `rate,length`: a rate from 16000 to 96000, and a length from 0 to 16384
+-- ---- the first line, `rate,length`: a rate from 16000 to 96000, and a length from 0 to 16384; a malformed rate counts as 0
 
 -- each case of the enum
 abbrev pub toldFirst : FirstLine → Told Head
 toldFirst (FirstLine.Head head) = says head
 toldFirst FirstLine.Invalid = refused 7
 
-unfoldable pub headOf : Number → Number → Told Head
-headOf (Value rate) (Value length) = cond (leb 16000 rate) (says (record { rate = rate; length = length })) (refused 7)
-headOf (Value rate) Invalid = refused 7
-headOf Invalid length = refused 7
-
 unfoldable pub readFirstLine : List ℕ → Told Head
 readFirstLine line =
-    let b = body line in
-    cond (ended line && hasFields 2 b) (headOf (decimal 96000 (field 0 b)) (decimal 16384 (field 1 b))) (refused 7)
+    let rate = value (decimal 96000 (field 0 (body line))) in
+    let length = decimal 16384 (field 1 (body line)) in
+    ask (ended line && hasFields 2 (body line) && (leb 16000 rate && valid length)) 7 (says (record { rate = rate; length = value length }))
 
 -- ---- the walk over the lines after it
 

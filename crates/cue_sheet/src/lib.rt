@@ -1,5 +1,6 @@
 // A cue sheet: its lines read, one walk over them, and the sheet judged. Nothing is stored: whoever renders a sheet walks over its lines again.
 mod answer; // answer.rt: the sheet's own refusals
+mod field; // field.rt: a line's fields
 mod line; // line.rt: one cue line
 
 pub use answer::SheetRefusal;
@@ -10,7 +11,10 @@ ghost use mathlib.Core.Path.{_≡_};
 ghost use Rattle.text.specs.Read.{lineAt};
 ghost use Rattle.cue_sheet.specs.CueLine.{told};
 ghost use Rattle.cue_sheet.specs.Sheet as spec;
-use text::read::Number;
+use crate::field::both;
+use crate::field::field;
+use crate::field::value;
+use text::read::decimal;
 
 // What the first line says.
 pub struct Head {
@@ -67,7 +71,7 @@ impl Walk {
         let place = text::read::line_end(sheet, self.place);
         let head = self.head;
         let line = read_cue(
-            line::part(sheet, self.place, place),
+            field::part(sheet, self.place, place),
             head.length,
             self.cues,
             self.least_start,
@@ -98,32 +102,19 @@ impl Walk {
     }
 }
 
-fn head_of(rate: Number, length: Number) -> FirstLine
-    ensures { λ r. ⌜ spec.toldFirst r ≡ spec.headOf rate length ⌝ }
-{
-    let Number::Value(rate) = rate else {
-        return FirstLine::Invalid;
-    };
-    let Number::Value(length) = length else {
-        return FirstLine::Invalid;
-    };
-    if rate < 16000 {
-        return FirstLine::Invalid;
-    }
-    FirstLine::Head(Head { rate, length })
-}
-
-// `rate,length` and a line end.
+// `rate,length` and a line end. A malformed rate counts as 0.
 pub fn read_first_line(line: &[u8]) -> FirstLine
     ensures { λ r. ⌜ spec.toldFirst r ≡ spec.readFirstLine (now (line .entry)) ⌝ }
 {
     let body = text::read::body(line);
-    let comma = text::read::field_end(body, 0);
-    let end = text::read::field_end(body, comma + 1);
-    let rate = text::read::decimal(line::part(body, 0, comma), 96000);
-    let length = text::read::decimal(line::part(body, comma + 1, end), 16384);
-    if line::both(text::read::ended(line), end == body.len()) {
-        return head_of(rate, length);
+    let rate = value(decimal(field(body, 0), 96000));
+    let length = decimal(field(body, 1), 16384);
+    let numbers = both(16000 <= rate, field::valid(length));
+    if both(field::whole(line, 1), numbers) {
+        return FirstLine::Head(Head {
+            rate,
+            length: value(length),
+        });
     }
     FirstLine::Invalid
 }
@@ -132,7 +123,7 @@ pub fn judge(sheet: &[u8]) -> Judgment
     ensures { λ r. ⌜ spec.answer r ≡ spec.judge (now (sheet .entry)) ⌝ }
 {
     let first = text::read::line_end(sheet, 0);
-    let FirstLine::Head(head) = read_first_line(line::part(sheet, 0, first)) else {
+    let FirstLine::Head(head) = read_first_line(field::part(sheet, 0, first)) else {
         return Judgment::Refused {
             refusal: SheetRefusal::FirstLine,
             line: 1,

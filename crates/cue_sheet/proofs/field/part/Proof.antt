@@ -1,8 +1,8 @@
 -- Each branch is a value of the definition's test.
 use borrow.Author.Needs.{needs}
 use borrow.Author.Tests.{le-leb, lt-leb}
-use Rattle.cue_sheet.proofs.line.part.Statement.{statement}
-use Rattle.cue_sheet.proofs.line.part.Tie as tie
+use Rattle.cue_sheet.proofs.field.part.Statement.{statement}
+use Rattle.cue_sheet.proofs.field.part.Tie as tie
 
 pub part-spec : {M : Type 1} → statement M
 part-spec =

@@ -49,27 +49,24 @@ head-in line {head} h =
       longest = most 16384 _;
     }
 
-not-accepted : {C : Type 0} {n line cues : ℕ} {head : Head} → refusedAt n line ≡ accepted head cues → C
-not-accepted e = let z : _≡_ {A = ℕ} 0 1 = cc in absurd (omega arith)
+-- what an accepted answer goes on from
+module _ {A : Type 0} (head : Head) (cues line : ℕ) (f : A → SheetAnswer) where
+  record From (t : Told A) : Type 0 where
+    it : A
+    said : t ≡ says it
+    goes : f it ≡ accepted head cues
+
+  from : (t : Told A) → onTold t (λ n. refusedAt n line) f ≡ accepted head cues → From t
+  unfolding onTold
+  from (says x) h = record { it = x; said = refl; goes = h }
+  from (refused n) h = let z : _≡_ {A = ℕ} 0 1 = cc in absurd (omega arith)
 
 -- the walk keeps what the first line says
 same-head : (w : Walk) (ls : List (List ℕ)) {head : Head} {cues : ℕ} → judgeFrom w ls ≡ accepted head cues → w .head ≡ head
-unfolding judgeFrom onTold
+unfolding judgeFrom
 same-head w [] h = cc
-same-head w (line ∷ ls) {head} {cues} h = go (readLine w line) (same-head (next w line) ls) h
-  where
-    go : (x : Told Strike) → (judgeFrom (next w line) ls ≡ accepted head cues → next w line .head ≡ head)
-        → onTold x (w .line) (λ _. judgeFrom (next w line) ls) ≡ accepted head cues → w .head ≡ head
-    go (says s) ih h = sym (next-head w line) ∙ ih h
-    go (refused n) ih h = not-accepted h
+same-head w (line ∷ ls) h = sym (next-head w line) ∙ same-head (next w line) ls (from _ _ _ _ (readLine w line) h .goes)
 
 pub accepted-head : (sheet : List ℕ) {head : Head} {cues : ℕ} → judge sheet ≡ accepted head cues → HeadIn head
-unfolding judge onTold
-accepted-head sheet {head} {cues} h = go (readFirstLine first) refl h
-  where
-    first : List ℕ
-    first = lineAt 0 sheet
-
-    go : (x : Told Head) → readFirstLine first ≡ x → onTold x 1 (λ head. judgeFrom (begin head first) (drop 1 (lines sheet))) ≡ accepted head cues → HeadIn head
-    go (says read) e h = rw (← same-head _ _ h) (head-in first e)
-    go (refused n) e h = not-accepted h
+unfolding judge
+accepted-head sheet h = let first = from _ _ _ _ (readFirstLine (lineAt 0 sheet)) h in rw (← same-head _ _ (first .goes)) (head-in _ (first .said))

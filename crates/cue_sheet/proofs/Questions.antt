@@ -14,6 +14,7 @@ use Rattle.cue_sheet.specs.Answer.{number, Told, says, refused, ask}
 use Rattle.cue_sheet.specs.CueLine.{Strike, isDecay, cueOf, readFields, readCue}
 use Rattle.cue_sheet.specs.declared.answer.SheetRefusal.{SheetRefusal}
 use Rattle.cue_sheet.specs.declared.answer.SheetRefusal.the-variants.{Knobs, FirstLine, CueLine, CueStart, CueCount, BufferLength}
+use Rattle.cue_sheet.specs.declared.line.Fields.{Fields}
 use Rattle.cue_sheet.specs.declared.line.Cue.{Cue}
 use Rattle.cue_sheet.specs.declared.line.Cue.the-variants.{Bass, Snare, SyntheticSnare, Hihat}
 
@@ -44,13 +45,14 @@ KnobsOf (Snare accent f0 tone decay snappy) = KnobsIn isUnit accent f0 tone deca
 KnobsOf (SyntheticSnare accent f0 fmAmount decay snappy) = KnobsIn isUnit accent f0 fmAmount decay snappy
 KnobsOf (Hihat accent f0 tone decay noisiness) = KnobsIn isUnit accent f0 tone decay noisiness
 
-knobs-of : (voice : ℕ) {accent f0 a decay c : Float} → KnobsIn (isDecay voice) accent f0 a decay c → KnobsOf (cueOf voice accent f0 a decay c)
+knobs-of : (f : Fields) → KnobsIn (isDecay (f .voice)) (f .accent) (f .f0) (f .a) (f .decay) (f .c) → KnobsOf (cueOf f)
 unfolding isDecay cueOf
-knobs-of voice {accent} {f0} {a} {decay} {c} k = go (eqb voice (code "b")) (eqb voice (code "s")) (eqb voice (code "y")) k
+knobs-of f = go (eqb (f .voice) (code "b")) (eqb (f .voice) (code "s")) (eqb (f .voice) (code "y"))
   where
-    go : (b s y : Bool) → KnobsIn (λ x. cond b (isBassDecay x) (isUnit x)) accent f0 a decay c
-        → KnobsOf (cond b (Bass accent f0 a decay c)
-        (cond s (Snare accent f0 a decay c) (cond y (SyntheticSnare accent f0 a decay c) (Hihat accent f0 a decay c))))
+    go : (b s y : Bool) → KnobsIn (λ x. cond b (isBassDecay x) (isUnit x)) (f .accent) (f .f0) (f .a) (f .decay) (f .c)
+        → KnobsOf (cond b (Bass (f .accent) (f .f0) (f .a) (f .decay) (f .c))
+        (cond s (Snare (f .accent) (f .f0) (f .a) (f .decay) (f .c))
+        (cond y (SyntheticSnare (f .accent) (f .f0) (f .a) (f .decay) (f .c)) (Hihat (f .accent) (f .f0) (f .a) (f .decay) (f .c)))))
     go true s y k = k
     go false true y k = k
     go false false true k = k
@@ -76,12 +78,12 @@ cue-passed length cues leastStart line {s} h =
     let a = passed (isUnit (f .a)) 5 _ (accent .1) in
     let decay = passed (isDecay (f .voice) (f .decay)) 5 _ (a .1) in
     let c = passed (isUnit (f .c)) 5 _ (decay .1) in
-    let same : record { start = f .start; cue = cueOf (f .voice) (f .accent) (f .f0) (f .a) (f .decay) (f .c) } ≡ s = cc (c .1) in
+    let same : record { start = f .start; cue = cueOf f } ≡ s = cc (c .1) in
     rw (← same) record {
       few = ltb-true cues 64 (few .0);
       inside = ltb-true (f .start) length (inside .0);
       least = leb-true leastStart (f .start) (least .0);
       knobs =
-          knobs-of (f .voice)
+          knobs-of f
           record { frequency = frequency .0; accent-in = accent .0; a-in = a .0; decay-in = decay .0; c-in = c .0 };
     }

@@ -13,7 +13,7 @@ use Rattle.text.specs.Read.{lines, lineAt}
 use Rattle.text.proofs.Lines.{line-inside, line-less, line-next, lines-over}
 use Rattle.cue_sheet.specs.Answer.{Told, says, refused}
 use Rattle.cue_sheet.specs.CueLine.{Strike}
-use Rattle.cue_sheet.specs.Sheet.{accepted, refusedAt, onTold, begin, readLine, after, next, judgeFrom, judge, struck, strikesFrom, readFirstLine}
+use Rattle.cue_sheet.specs.Sheet.{accepted, refusedAt, onTold, begin, readLine, next, judgeFrom, judge, struck, strikesFrom, readFirstLine}
 use Rattle.cue_sheet.specs.declared.Head.{Head}
 use Rattle.cue_sheet.specs.declared.Walk.{Walk}
 
@@ -68,30 +68,21 @@ module _ (sheet : List ℕ) where
 
 -- ---- one line after the other
 module _ (w : Walk) (line : List ℕ) where
-  -- place and head after a line, whatever it says
   pub next-place : next w line .place ≡ w .place + List.length line
   unfolding next
-  next-place = go (readLine w line)
-    where
-      go : (t : Told Strike) → after w (List.length line) t .place ≡ w .place + List.length line
-      go (says s) = refl
-      go (refused n) = refl
+  next-place = refl
 
   pub next-head : next w line .head ≡ w .head
   unfolding next
-  next-head = go (readLine w line)
-    where
-      go : (t : Told Strike) → after w (List.length line) t .head ≡ w .head
-      go (says s) = refl
-      go (refused n) = refl
+  next-head = refl
 
   -- the least start is kept, or is one above the cue's
   pub least-kept : {n : ℕ} → readLine w line ≡ refused n → next w line .«least_start» ≡ w .«least_start»
-  unfolding next
+  unfolding next onTold
   least-kept e = rw e
 
   pub least-raised : {s : Strike} → readLine w line ≡ says s → next w line .«least_start» ≡ s .start + 1
-  unfolding next
+  unfolding next onTold
   least-raised e = rw e
 
 module _ (sheet : List ℕ) (w : Walk) (more : w .place < List.length sheet) where

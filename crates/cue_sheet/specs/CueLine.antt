@@ -54,12 +54,12 @@ readFields line =
     }
 
 -- ---- the cue: a is the tone, or the fm_amount of y, and c what the voice has last
-unfoldable pub cueOf : ℕ → Float → Float → Float → Float → Float → Cue
-cueOf voice accent f0 a decay c =
-    cond (eqb voice (code "b")) (Bass accent f0 a decay c)
-    (cond (eqb voice (code "s")) (Snare accent f0 a decay c)
-    (cond (eqb voice (code "y")) (SyntheticSnare accent f0 a decay c)
-    (Hihat accent f0 a decay c)))
+unfoldable pub cueOf : Fields → Cue
+cueOf f =
+    cond (eqb (f .voice) (code "b")) (Bass (f .accent) (f .f0) (f .a) (f .decay) (f .c))
+    (cond (eqb (f .voice) (code "s")) (Snare (f .accent) (f .f0) (f .a) (f .decay) (f .c))
+    (cond (eqb (f .voice) (code "y")) (SyntheticSnare (f .accent) (f .f0) (f .a) (f .decay) (f .c))
+    (Hihat (f .accent) (f .f0) (f .a) (f .decay) (f .c))))
 
 pub record Strike : Type 0 where
   pub start : ℕ
@@ -88,4 +88,4 @@ readCue length cues leastStart line =
     (ask (isUnit (f .a)) 5
     (ask (isDecay (f .voice) (f .decay)) 5
     (ask (isUnit (f .c)) 5
-    (says (record { start = f .start; cue = cueOf (f .voice) (f .accent) (f .f0) (f .a) (f .decay) (f .c) }))))))))))
+    (says (record { start = f .start; cue = cueOf f }))))))))))

@@ -36,13 +36,20 @@ begin head first = record { head = head; place = 0 + List.length first; line = 2
 abbrev pub readLine : Walk → List ℕ → Told Strike
 readLine w line = readCue (w .head .length) (w .cues) (w .«least_start») line
 
--- after a line of n bytes; what is no cue changes neither the count nor the least start
-abbrev pub after : Walk → ℕ → Told Strike → Walk
-after w n (says s) = record { head = w .head; place = w .place + n; line = (w .line + 1) % 2 ^ 32; cues = w .cues + 1; «least_start» = s .start + 1 }
-after w n (refused m) = record { head = w .head; place = w .place + n; line = (w .line + 1) % 2 ^ 32; cues = w .cues; «least_start» = w .«least_start» }
+-- what a line says, or the number of its refusal
+unfoldable pub onTold : {A : Type 0} {B : Type 0} → Told A → (ℕ → B) → (A → B) → B
+onTold (says x) otherwise then = then x
+onTold (refused n) otherwise then = otherwise n
 
+-- what is no cue changes neither the count nor the least start
 unfoldable pub next : Walk → List ℕ → Walk
-next w line = after w (List.length line) (readLine w line)
+next w line = record {
+  head = w .head;
+  place = w .place + List.length line;
+  line = (w .line + 1) % 2 ^ 32;
+  cues = onTold (readLine w line) (λ _. w .cues) λ _. w .cues + 1;
+  «least_start» = onTold (readLine w line) (λ _. w .«least_start») λ s. s .start + 1;
+}
 
 -- ---- the judgment: what the first line says and the number of cues, or the number of the first question that is not passed and its line, counted from 1
 pub data SheetAnswer : Type 0 where
@@ -54,17 +61,14 @@ abbrev pub answer : Judgment → SheetAnswer
 answer (Accepted head cues) = accepted head cues
 answer (Refused refusal line) = refusedAt (number refusal) line
 
-unfoldable pub onTold : {A : Type 0} → Told A → ℕ → (A → SheetAnswer) → SheetAnswer
-onTold (says x) line f = f x
-onTold (refused n) line f = refusedAt n line
-
 unfoldable pub judgeFrom : Walk → List (List ℕ) → SheetAnswer
 unfolding onTold
 judgeFrom w [] = accepted (w .head) (w .cues)
-judgeFrom w (line ∷ lines) = onTold (readLine w line) (w .line) λ _. judgeFrom (next w line) lines
+judgeFrom w (line ∷ lines) = onTold (readLine w line) (λ n. refusedAt n (w .line)) λ _. judgeFrom (next w line) lines
 
 unfoldable pub judge : List ℕ → SheetAnswer
-judge sheet = onTold (readFirstLine (lineAt 0 sheet)) 1 λ head. judgeFrom (begin head (lineAt 0 sheet)) (drop 1 (lines sheet))
+judge sheet =
+    onTold (readFirstLine (lineAt 0 sheet)) (λ n. refusedAt n 1) λ head. judgeFrom (begin head (lineAt 0 sheet)) (drop 1 (lines sheet))
 
 -- ---- the cues, in their order: of a refused sheet, those of the lines that pass
 

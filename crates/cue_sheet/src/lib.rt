@@ -69,35 +69,22 @@ impl Walk {
         ensures walk { λ r. ⌜ r .walk ≡ spec.next self (lineAt (self .place) (now (sheet .entry))) ⌝ }
     {
         let place = text::read::line_end(sheet, self.place);
-        let head = self.head;
         let line = read_cue(
             field::part(sheet, self.place, place),
-            head.length,
+            self.head.length,
             self.cues,
             self.least_start,
         );
-        let number = std::num::wrapping_add_u32(self.line, 1);
+        let mut walk = self;
+        walk.place = place;
+        walk.line = std::num::wrapping_add_u32(self.line, 1);
         match line {
-            Line::Cue(start, _) => Step {
-                line,
-                walk: Walk {
-                    head,
-                    place,
-                    line: number,
-                    cues: self.cues + 1,
-                    least_start: start + 1,
-                },
-            },
-            Line::Refused(_) => Step {
-                line,
-                walk: Walk {
-                    head,
-                    place,
-                    line: number,
-                    cues: self.cues,
-                    least_start: self.least_start,
-                },
-            },
+            Line::Cue(start, _) => {
+                walk.cues = self.cues + 1;
+                walk.least_start = start + 1;
+                Step { line, walk }
+            }
+            Line::Refused(_) => Step { line, walk },
         }
     }
 }
@@ -133,14 +120,11 @@ pub fn judge(sheet: &[u8]) -> Judgment
     while walk.place < sheet.len() {
         let step = walk.next(sheet);
         let line = step.line;
-        match line {
-            Line::Refused(refusal) => {
-                return Judgment::Refused {
-                    refusal,
-                    line: walk.line,
-                };
-            }
-            Line::Cue(_, _) => {}
+        if let Line::Refused(refusal) = line {
+            return Judgment::Refused {
+                refusal,
+                line: walk.line,
+            };
         }
         walk = step.walk;
     }

@@ -7,6 +7,7 @@ use crate::field::both;
 use crate::field::field;
 use crate::field::valid;
 use crate::field::value;
+use ieee754::from_bits;
 use refusal::Refusal;
 use refusal::is_bass_decay;
 use refusal::is_frequency;
@@ -97,12 +98,6 @@ fn is_decay(voice: u8, decay: f32) -> bool
 }
 
 // A knob's field is the bit pattern of a float.
-fn knob(pattern: Number) -> f32
-    ensures { λ r. ⌜ r ≡ spec.knob pattern ⌝ }
-{
-    ieee754::from_bits(value(pattern))
-}
-
 fn read_fields(line: &[u8]) -> Fields
     ensures { λ r. ⌜ r ≡ spec.readFields (now (line .entry)) ⌝ }
 {
@@ -121,45 +116,46 @@ fn read_fields(line: &[u8]) -> Fields
         formed: both(crate::field::whole(line, 6), fields),
         start: value(start),
         voice,
-        accent: knob(accent),
-        f0: knob(f0),
-        a: knob(a),
-        decay: knob(decay),
-        c: knob(c),
+        accent: from_bits(value(accent)),
+        f0: from_bits(value(f0)),
+        a: from_bits(value(a)),
+        decay: from_bits(value(decay)),
+        c: from_bits(value(c)),
     }
 }
 
-fn cue_of(voice: u8, accent: f32, f0: f32, a: f32, decay: f32, c: f32) -> Cue
-    ensures { λ r. ⌜ r ≡ spec.cueOf voice accent f0 a decay c ⌝ }
+fn cue_of(fields: Fields) -> Cue
+    ensures { λ r. ⌜ r ≡ spec.cueOf fields ⌝ }
 {
+    let voice = fields.voice;
     match voice {
         b'b' => Cue::Bass {
-            accent,
-            f0,
-            tone: a,
-            decay,
-            attack_fm_amount: c,
+            accent: fields.accent,
+            f0: fields.f0,
+            tone: fields.a,
+            decay: fields.decay,
+            attack_fm_amount: fields.c,
         },
         b's' => Cue::Snare {
-            accent,
-            f0,
-            tone: a,
-            decay,
-            snappy: c,
+            accent: fields.accent,
+            f0: fields.f0,
+            tone: fields.a,
+            decay: fields.decay,
+            snappy: fields.c,
         },
         b'y' => Cue::SyntheticSnare {
-            accent,
-            f0,
-            fm_amount: a,
-            decay,
-            snappy: c,
+            accent: fields.accent,
+            f0: fields.f0,
+            fm_amount: fields.a,
+            decay: fields.decay,
+            snappy: fields.c,
         },
         _ => Cue::Hihat {
-            accent,
-            f0,
-            tone: a,
-            decay,
-            noisiness: c,
+            accent: fields.accent,
+            f0: fields.f0,
+            tone: fields.a,
+            decay: fields.decay,
+            noisiness: fields.c,
         },
     }
 }
@@ -177,26 +173,23 @@ pub fn read_cue(line: &[u8], length: u32, cues: u32, least_start: u32) -> Line
     ensures { λ r. ⌜ spec.told r ≡ spec.readCue length cues «least_start» (now (line .entry)) ⌝ }
 {
     let fields = read_fields(line);
-    let start = fields.start;
-    let voice = fields.voice;
-    let accent = fields.accent;
-    let f0 = fields.f0;
-    let a = fields.a;
-    let decay = fields.decay;
-    let c = fields.c;
     let knob = SheetRefusal::Knobs(Refusal::Knob);
-    let next = Line::Cue(start, cue_of(voice, accent, f0, a, decay, c));
-    let next = ask(is_unit(c), knob, next);
-    let next = ask(is_decay(voice, decay), knob, next);
-    let next = ask(is_unit(a), knob, next);
-    let next = ask(is_unit(accent), SheetRefusal::Knobs(Refusal::Accent), next);
+    let next = Line::Cue(fields.start, cue_of(fields));
+    let next = ask(is_unit(fields.c), knob, next);
+    let next = ask(is_decay(fields.voice, fields.decay), knob, next);
+    let next = ask(is_unit(fields.a), knob, next);
     let next = ask(
-        is_frequency(f0),
+        is_unit(fields.accent),
+        SheetRefusal::Knobs(Refusal::Accent),
+        next,
+    );
+    let next = ask(
+        is_frequency(fields.f0),
         SheetRefusal::Knobs(Refusal::Frequency),
         next,
     );
-    let next = ask(least_start <= start, SheetRefusal::CueStart, next);
-    let next = ask(start < length, SheetRefusal::CueStart, next);
+    let next = ask(least_start <= fields.start, SheetRefusal::CueStart, next);
+    let next = ask(fields.start < length, SheetRefusal::CueStart, next);
     let next = ask(fields.formed, SheetRefusal::CueLine, next);
     ask(cues < 64, SheetRefusal::CueCount, next)
 }

@@ -9,10 +9,12 @@ returns c =
     let c₁ = c .before .before .before .before in
     let c₂ = c₁ .before .before .before .before in
     let c₃ = c₂ .before .before .before .before in
-    rw (c .ask9 .ensures, c .before .ask8 .ensures, c .before .before .ask7 .ensures, c .before .before .before .ask6 .ensures)
-    (rw (c₁ .ask5 .ensures, c₁ .before .is-frequency .ensures, c₁ .before .before .ask4 .ensures, c₁ .before .before .before .is-unit3 .ensures)
-    (rw (c₂ .ask3 .ensures, c₂ .before .is-unit2 .ensures, c₂ .before .before .ask2 .ensures, c₂ .before .before .before .is-decay .ensures)
-    (rw (c₃ .ask .ensures, c₃ .before .is-unit .ensures, c₃ .before .before .cue-of .ensures, c₃ .before .before .before .read-fields .ensures))))
+    let c₄ = c₃ .before .before .before .before in
+    rw (c .ask9 .ensures, c .before .ask8 .ensures, c .before .before .ask7 .ensures, c₁ .ask6 .ensures, c₁ .before .before .ask5 .ensures)
+    (rw (c₁ .before .before .before .is-frequency .ensures, c₂ .ask4 .ensures, c₂ .before .is-unit3 .ensures)
+    (rw (c₂ .before .before .ask3 .ensures, c₂ .before .before .before .is-unit2 .ensures, c₃ .ask2 .ensures, c₃ .before .is-decay .ensures)
+    (rw (c₃ .before .before .ask .ensures, c₃ .before .before .before .is-unit .ensures, c₄ .cue-of .ensures)
+    (rw (c₄ .before .read-fields .ensures)))))
 
 pub read-cue-spec : {M : Type 1} → statement M
 read-cue-spec =

@@ -173,21 +173,15 @@ pub fn read_cue(line: &[u8], length: u32, cues: u32, least_start: u32) -> Line
     ensures { λ r. ⌜ spec.told r ≡ spec.readCue length cues «least_start» (now (line .entry)) ⌝ }
 {
     let fields = read_fields(line);
+    let frequency = SheetRefusal::Knobs(Refusal::Frequency);
+    let accent = SheetRefusal::Knobs(Refusal::Accent);
     let knob = SheetRefusal::Knobs(Refusal::Knob);
     let next = Line::Cue(fields.start, cue_of(fields));
     let next = ask(is_unit(fields.c), knob, next);
     let next = ask(is_decay(fields.voice, fields.decay), knob, next);
     let next = ask(is_unit(fields.a), knob, next);
-    let next = ask(
-        is_unit(fields.accent),
-        SheetRefusal::Knobs(Refusal::Accent),
-        next,
-    );
-    let next = ask(
-        is_frequency(fields.f0),
-        SheetRefusal::Knobs(Refusal::Frequency),
-        next,
-    );
+    let next = ask(is_unit(fields.accent), accent, next);
+    let next = ask(is_frequency(fields.f0), frequency, next);
     let next = ask(least_start <= fields.start, SheetRefusal::CueStart, next);
     let next = ask(fields.start < length, SheetRefusal::CueStart, next);
     let next = ask(fields.formed, SheetRefusal::CueLine, next);

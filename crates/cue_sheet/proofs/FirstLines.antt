@@ -5,15 +5,13 @@ use mathlib.Core.Path.{_≡_, refl, sym, _∙_}
 use mathlib.Core.Bool.{Bool, true, false, _&&_}
 use mathlib.Core.List.{List, [], _∷_}
 use lib.Dec.{leb}
-use lib.ListN.{drop}
 use borrow.Author.Tests.{leb-true}
-use Rattle.text.specs.Read.{ended, body, field, hasFields, decimal, lines, lineAt}
+use Rattle.text.specs.Read.{ended, body, field, hasFields, decimal, lineAt}
 use Rattle.text.specs.declared.read.Number.{Number}
 use Rattle.text.specs.declared.read.Number.the-variants.{Value, Invalid}
 use Rattle.text.proofs.Numeral.{decimal-read}
 use Rattle.cue_sheet.specs.Answer.{Told, says, refused, valid, value}
-use Rattle.cue_sheet.specs.CueLine.{Strike}
-use Rattle.cue_sheet.specs.Sheet.{SheetAnswer, accepted, refusedAt, onTold, readFirstLine, begin, readLine, next, judgeFrom, judge}
+use Rattle.cue_sheet.specs.Sheet.{SheetAnswer, accepted, refusedAt, onTold, readFirstLine, readLine, next, judgeFrom, judge}
 use Rattle.cue_sheet.specs.declared.Head.{Head}
 use Rattle.cue_sheet.specs.declared.Walk.{Walk}
 use Rattle.cue_sheet.proofs.Questions.{passed}

@@ -10,7 +10,7 @@ use lib.Ieee.{Float}
 use borrow.Author.Tests.{ltb-true, leb-true}
 use Rattle.refusal.specs.Refusal.{isFrequency, isUnit, isBassDecay}
 use Rattle.refusal.proofs.ByNumber as ByNumber
-use Rattle.cue_sheet.specs.Answer.{number, Told, says, refused, ask}
+use Rattle.cue_sheet.specs.Answer.{number, Told, says, ask}
 use Rattle.cue_sheet.specs.CueLine.{Strike, isDecay, cueOf, readFields, readCue}
 use Rattle.cue_sheet.specs.declared.answer.SheetRefusal.{SheetRefusal}
 use Rattle.cue_sheet.specs.declared.answer.SheetRefusal.the-variants.{Knobs, FirstLine, CueLine, CueStart, CueCount, BufferLength}

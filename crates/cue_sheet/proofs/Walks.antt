@@ -1,42 +1,31 @@
 -- The walk over the lines of a sheet, of whoever judges it and of whoever goes over its cues.
-use Prim.Native.Nat.{ℕ, _+_, _-_, _≤_, _<_}
+use Prim.Native.Nat.{ℕ, _+_, _-_, _≤_, _<_, max}
 use native.Mathlib.Omega.{arith}
 use native.Mathlib.Decide.{decLt}
 use mathlib.Core.Path.{_≡_, refl, sym, ap, _∙_}
-use mathlib.Core.Bool.{Bool, true, false, cond}
 use mathlib.Core.List.{List, [], _∷_}
-use lib.Dec.{leb}
 use lib.ListN as List
 use lib.ListN.{take, drop, getD}
-use borrow.Author.Tests.{le-leb}
 use Rattle.text.specs.Read.{lines, lineAt}
 use Rattle.text.proofs.Lines.{line-inside, line-less, line-next, lines-over}
-use Rattle.cue_sheet.specs.Answer.{Told, says, refused}
+use Rattle.cue_sheet.specs.Answer.{says, refused}
 use Rattle.cue_sheet.specs.CueLine.{Strike}
 use Rattle.cue_sheet.specs.Sheet.{onTold, readLine, next, struck, strikesFrom}
 use Rattle.cue_sheet.specs.declared.Walk.{Walk}
 
 -- ---- the line at a place
-past : (s : List ℕ) (at : ℕ) → List.length s ≤ at → lineAt at s ≡ []
-unfolding lineAt
-past s at h = rw (lines-over s at h)
-
-either : {A : Type 0} (t : Bool) (x : A) → cond t x x ≡ x
-either true x = refl
-either false x = refl
-
-pub line-part : (s : List ℕ) (at e : ℕ) → e ≡ at + List.length (lineAt at s)
-    → cond (leb e (List.length s)) (take (e - at) (drop at s)) [] ≡ lineAt at s
-unfolding lineAt
-line-part s at e ends = go (decLt at (List.length s))
-  where
-    go : Dec (at < List.length s) → cond (leb e (List.length s)) (take (e - at) (drop at s)) [] ≡ lineAt at s
-    go (yes more) =
-        rw (le-leb e (List.length s) (line-inside s at e ends more)) (sym (ap (λ (ls : List (List ℕ)). getD ls 0 []) (line-next s at e ends more)))
-    go (no over) =
-        let none = past s at (omega arith) in
-        let same : e - at ≡ 0 = omega (arith, ap List.length none) in
-        rw (none, same) (either (leb e (List.length s)) [])
+module _ (s : List ℕ) (at e : ℕ) (ends : e ≡ at + List.length (lineAt at s)) where
+  pub line-part : ((at ≤ e) × (e ≤ max at (List.length s))) × (take (e - at) (drop at s) ≡ lineAt at s)
+  unfolding lineAt
+  line-part = go (decLt at (List.length s))
+    where
+      go : Dec (at < List.length s) → ((at ≤ e) × (e ≤ max at (List.length s))) × (take (e - at) (drop at s) ≡ lineAt at s)
+      go (yes more) =
+          ((omega arith, omega (arith, line-inside s at e ends more)), sym (ap (λ (ls : List (List ℕ)). getD ls 0 []) (line-next s at e ends more)))
+      go (no over) =
+          let none : lineAt at s ≡ [] = rw (lines-over s at (omega arith)) in
+          let same : e - at ≡ 0 = omega (arith, ap List.length none) in
+          ((omega arith, omega (arith, ap List.length none)), rw (none, same))
 
 -- the lines after the first
 pub rest : (sheet : List ℕ) → drop 1 (lines sheet) ≡ lines (drop (0 + List.length (lineAt 0 sheet)) sheet)

@@ -1,20 +1,17 @@
 // The fields of a line by their numbers, counted from 0, and what a field's number stands for.
 ghost use mathlib.Core.Path.{_≡_};
-ghost use mathlib.Core.Bool.{cond, _&&_};
-ghost use mathlib.Core.List.{[]};
-ghost use Prim.Native.Nat.{suc, _-_, _≤_};
-ghost use lib.Dec.{leb};
-ghost use lib.ListN as List;
-ghost use lib.ListN.{take, drop};
+ghost use mathlib.Core.Bool.{_&&_};
+ghost use Prim.Native.Nat.{suc, _-_, _≤_, max};
+ghost use lib.ListN.{length, take, drop};
 ghost use Rattle.text.specs.Read as Read;
 ghost use Rattle.text.proofs.Fields.{fieldStart};
 ghost use Rattle.cue_sheet.specs.Answer as spec;
 use text::read::Number;
 
-// The bytes from one place to another; none where there are not so many.
+// The bytes from one place to another. Past the end there are none.
 pub(crate) fn part(s: &[u8], from: usize, to: usize) -> &[u8]
-    requires { ⌜ from ≤ to ⌝ }
-    ensures { λ r. ⌜ now r ≡ cond (leb to (List.length (now (s .entry)))) (take (to - from) (drop from (now (s .entry)))) [] ⌝ }
+    requires { ⌜ (from ≤ to) × (to ≤ max from (length (now s))) ⌝ }
+    ensures { λ r. ⌜ now r ≡ take (to - from) (drop from (now (s .entry))) ⌝ }
 {
     if to <= s.len() {
         return &s[from..to];

@@ -1,7 +1,7 @@
 -- The walk over the lines: the judgment is that of the lines from the walk's place on.
 use borrow.Author.Needs.{needs}
 use Prim.Native.Nat.{_-_}
-use mathlib.Core.Path.{_≡_, refl, sym, _∙_}
+use mathlib.Core.Path.{_≡_, sym, _∙_}
 use lib.ListN as List
 use lib.ListN.{drop}
 use Rattle.text.specs.Read.{lines}
@@ -21,7 +21,7 @@ refused-first : tie.Need-returns Inv-loop μ-loop
 unfolding judge onTold
 refused-first c =
     let read = c .before .before in
-    let line = line-part _ _ _ (read .before .before .line-end .ensures) in
+    let line = line-part _ _ _ (read .before .before .line-end .ensures) .1 in
     rw (← (rw (read .before .part .ensures, line, c .enum-told .given .1) at (read .read-first-line .ensures)))
 
 loop-holds : tie.Need-loop-holds Inv-loop μ-loop
@@ -29,7 +29,7 @@ unfolding judge onTold
 loop-holds c =
     let head = c .before .before in
     let read = head .before .before in
-    let line = line-part _ _ _ (read .before .before .line-end .ensures) in
+    let line = line-part _ _ _ (read .before .before .line-end .ensures) .1 in
     rw (c .begin .ensures, ← (rw (read .before .part .ensures, line, head .head .given .1) at (read .read-first-line .ensures)), rest)
 
 refused-line : tie.Need-returns-2 Inv-loop μ-loop
@@ -62,6 +62,6 @@ pub judge-spec : {M : Type 1} → statement M
 unfolding judgeFrom
 judge-spec =
     tie.close
-    (tie.spec Inv-loop μ-loop (λ c κs. tt) (λ c κs. search needs) (λ c κs. tt) (λ c. search needs) (λ c. search needs) refused-first (λ c κs. tt)
+    (tie.spec Inv-loop μ-loop (λ c κs. tt) (λ c κs. line-part _ _ _ (c .line-end .ensures) .0) (λ c κs. tt) (λ c. search needs) (λ c. search needs) refused-first (λ c κs. tt)
     loop-holds (λ c κs. tt) (λ c. search needs) refused-line (λ c. search needs) loop-less loop-again
     (λ c. sym (c .before .before .before .loop .inv ∙ rw (lines-over _ _ (c .before .if1 .left)))))

@@ -1,11 +1,13 @@
--- Each branch is a value of the definition's test.
+-- The part as it is cut; past the end there is nothing to cut.
 use borrow.Author.Needs.{needs}
-use borrow.Author.Tests.{le-leb, lt-leb}
+use native.Mathlib.Omega.{arith}
+use lib.ListN.{drop-of-length-le}
+use lib.Seq.{take-nil}
 use Rattle.cue_sheet.proofs.field.part.Statement.{statement}
 use Rattle.cue_sheet.proofs.field.part.Tie as tie
 
 pub part-spec : {M : Type 1} → statement M
 part-spec =
     tie.close
-    (tie.spec (λ c. search needs) (λ c. search needs) (λ c. search needs) (λ c. rw (le-leb _ _ (c .before .if1 .taken))) (λ c. search needs)
-    (λ c. rw (lt-leb _ _ (c .before .if1 .left))))
+    (tie.spec (λ c. search needs) (λ c. search needs) (λ c. search needs) (λ c. search needs) (λ c. search needs)
+    (λ c. let a = c .before .before .args in rw (drop-of-length-le (a .s .now) {i = a .from} (omega arith), take-nil)))

@@ -2,20 +2,19 @@
 use Prim.Native.Nat.{ℕ, _≤_}
 use native.Mathlib.Omega.{arith}
 use mathlib.Core.Path.{_≡_, refl, sym, _∙_}
-use mathlib.Core.Bool.{Bool, true, false, cond, _&&_}
+use mathlib.Core.Bool.{Bool, true, false, _&&_}
 use mathlib.Core.List.{List, [], _∷_}
 use lib.Dec.{leb}
-use lib.ListN.{drop}
 use borrow.Author.Tests.{leb-true}
-use Rattle.text.specs.Read.{ended, body, field, hasFields, decimal, lines, lineAt}
+use Rattle.text.specs.Read.{ended, body, field, hasFields, decimal, lineAt}
 use Rattle.text.specs.declared.read.Number.{Number}
 use Rattle.text.specs.declared.read.Number.the-variants.{Value, Invalid}
 use Rattle.text.proofs.Numeral.{decimal-read}
-use Rattle.cue_sheet.specs.Answer.{Told, says, refused}
-use Rattle.cue_sheet.specs.CueLine.{Strike}
-use Rattle.cue_sheet.specs.Sheet.{SheetAnswer, accepted, refusedAt, onTold, headOf, readFirstLine, begin, readLine, next, judgeFrom, judge}
+use Rattle.cue_sheet.specs.Answer.{Told, says, refused, valid, value}
+use Rattle.cue_sheet.specs.Sheet.{SheetAnswer, accepted, refusedAt, onTold, readFirstLine, readLine, next, judgeFrom, judge}
 use Rattle.cue_sheet.specs.declared.Head.{Head}
 use Rattle.cue_sheet.specs.declared.Walk.{Walk}
+use Rattle.cue_sheet.proofs.Questions.{passed}
 use Rattle.cue_sheet.proofs.Walks.{next-head}
 
 pub record HeadIn (head : Head) : Type 0 where
@@ -23,48 +22,49 @@ pub record HeadIn (head : Head) : Type 0 where
   pub highest : head .rate ≤ 96000
   pub longest : head .length ≤ 16384
 
-never : {A C : Type 0} {n : ℕ} {x : A} → refused n ≡ says x → C
-never e = let z : _≡_ {A = ℕ} 0 1 = cc in absurd (omega arith)
+most : (limit : ℕ) (text : List ℕ) → value (decimal limit text) ≤ limit
+most limit text = go (decimal limit text) refl
+  where
+    go : (x : Number) → decimal limit text ≡ x → value x ≤ limit
+    go (Value n) e = decimal-read limit n text e .most
+    go Invalid e = omega arith
 
-not-accepted : {C : Type 0} {n line cues : ℕ} {head : Head} → refusedAt n line ≡ accepted head cues → C
-not-accepted e = let z : _≡_ {A = ℕ} 0 1 = cc in absurd (omega arith)
+and-right : (p q r : Bool) → (p && (q && r)) ≡ true → q ≡ true
+and-right true true r h = refl
+and-right true false r h = h
+and-right false q r h = let z : _≡_ {A = ℕ} 0 1 = cc in absurd (omega arith)
 
 head-in : (line : List ℕ) {head : Head} → readFirstLine line ≡ says head → HeadIn head
-unfolding readFirstLine headOf
-head-in line {head} h = go (ended line && hasFields 2 (body line)) (decimal 96000 (field 0 (body line))) (decimal 16384 (field 1 (body line))) refl refl h
-  where
-    from : (r l : ℕ) (t : Bool) → leb 16000 r ≡ t → r ≤ 96000 → l ≤ 16384
-        → cond t (says (record { rate = r; length = l })) (refused 7) ≡ says head → HeadIn head
-    from r l true e high long h =
-        let same : record { rate = r; length = l } ≡ head = cc in
-        rw (← same) record { lowest = leb-true 16000 r e; highest = high; longest = long }
-    from r l false e high long h = never h
+unfolding readFirstLine
+head-in line {head} h =
+    let rate = value (decimal 96000 (field 0 (body line))) in
+    let length = decimal 16384 (field 1 (body line)) in
+    let test = passed (ended line && hasFields 2 (body line) && (leb 16000 rate && valid length)) 7 _ h in
+    let same : record { rate = rate; length = value length } ≡ head = cc (test .1) in
+    rw (← same) record {
+      lowest = leb-true 16000 rate (and-right (ended line && hasFields 2 (body line)) (leb 16000 rate) (valid length) (test .0));
+      highest = most 96000 _;
+      longest = most 16384 _;
+    }
 
-    go : (t : Bool) (x y : Number) → decimal 96000 (field 0 (body line)) ≡ x → decimal 16384 (field 1 (body line)) ≡ y
-        → cond t (headOf x y) (refused 7) ≡ says head → HeadIn head
-    go true (Value r) (Value l) ex ey h = from r l (leb 16000 r) refl (decimal-read 96000 r _ ex .most) (decimal-read 16384 l _ ey .most) h
-    go true (Value r) Invalid ex ey h = never h
-    go true Invalid y ex ey h = never h
-    go false x y ex ey h = never h
+-- what an accepted answer goes on from
+module _ {A : Type 0} (head : Head) (cues line : ℕ) (f : A → SheetAnswer) where
+  record From (t : Told A) : Type 0 where
+    it : A
+    said : t ≡ says it
+    goes : f it ≡ accepted head cues
+
+  from : (t : Told A) → onTold t (λ n. refusedAt n line) f ≡ accepted head cues → From t
+  unfolding onTold
+  from (says x) h = record { it = x; said = refl; goes = h }
+  from (refused n) h = let z : _≡_ {A = ℕ} 0 1 = cc in absurd (omega arith)
 
 -- the walk keeps what the first line says
 same-head : (w : Walk) (ls : List (List ℕ)) {head : Head} {cues : ℕ} → judgeFrom w ls ≡ accepted head cues → w .head ≡ head
-unfolding judgeFrom onTold
+unfolding judgeFrom
 same-head w [] h = cc
-same-head w (line ∷ ls) {head} {cues} h = go (readLine w line) (same-head (next w line) ls) h
-  where
-    go : (x : Told Strike) → (judgeFrom (next w line) ls ≡ accepted head cues → next w line .head ≡ head)
-        → onTold x (w .line) (λ _. judgeFrom (next w line) ls) ≡ accepted head cues → w .head ≡ head
-    go (says s) ih h = sym (next-head w line) ∙ ih h
-    go (refused n) ih h = not-accepted h
+same-head w (line ∷ ls) h = sym (next-head w line) ∙ same-head (next w line) ls (from _ _ _ _ (readLine w line) h .goes)
 
 pub accepted-head : (sheet : List ℕ) {head : Head} {cues : ℕ} → judge sheet ≡ accepted head cues → HeadIn head
-unfolding judge onTold
-accepted-head sheet {head} {cues} h = go (readFirstLine first) refl h
-  where
-    first : List ℕ
-    first = lineAt 0 sheet
-
-    go : (x : Told Head) → readFirstLine first ≡ x → onTold x 1 (λ head. judgeFrom (begin head first) (drop 1 (lines sheet))) ≡ accepted head cues → HeadIn head
-    go (says read) e h = rw (← same-head _ _ h) (head-in first e)
-    go (refused n) e h = not-accepted h
+unfolding judge
+accepted-head sheet h = let first = from _ _ _ _ (readFirstLine (lineAt 0 sheet)) h in rw (← same-head _ _ (first .goes)) (head-in _ (first .said))

@@ -1,6 +1,4 @@
 -- The laws of `cue_sheet` beside the proofs of its functions.
-mod Letter
-mod Cursor
 pub mod Questions
 pub mod Walks
 pub mod FirstLines

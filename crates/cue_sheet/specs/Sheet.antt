@@ -1,14 +1,12 @@
 -- A cue sheet: its first line, the walk over the lines after it, the judgment, and the cues. Definitions only.
 use Prim.Native.Nat.{ℕ, _+_, _%_, _^_}
-use mathlib.Core.Bool.{cond, _&&_}
+use mathlib.Core.Bool.{_&&_}
 use mathlib.Core.List.{List, [], _∷_}
 use lib.Dec.{leb}
 use lib.ListN as List
 use lib.ListN.{drop}
 use Rattle.text.specs.Read.{ended, body, field, hasFields, decimal, lines, lineAt}
-use Rattle.text.specs.declared.read.Number.{Number}
-use Rattle.text.specs.declared.read.Number.the-variants.{Value, Invalid}
-use Rattle.cue_sheet.specs.Answer.{number, Told, says, refused}
+use Rattle.cue_sheet.specs.Answer.{number, Told, says, refused, ask, valid, value}
 use Rattle.cue_sheet.specs.CueLine.{Strike, readCue}
 use Rattle.cue_sheet.specs.declared.Head.{Head}
 use Rattle.cue_sheet.specs.declared.FirstLine.{FirstLine}
@@ -17,22 +15,18 @@ use Rattle.cue_sheet.specs.declared.Walk.{Walk}
 use Rattle.cue_sheet.specs.declared.Judgment.{Judgment}
 use Rattle.cue_sheet.specs.declared.Judgment.the-variants.{Accepted, Refused}
 
--- ---- the first line, `rate,length`: a rate from 16000 to 96000, and a length from 0 to 16384
+-- ---- the first line, `rate,length`: a rate from 16000 to 96000, and a length from 0 to 16384; a malformed rate counts as 0
 
 -- each case of the enum
 abbrev pub toldFirst : FirstLine → Told Head
 toldFirst (FirstLine.Head head) = says head
 toldFirst FirstLine.Invalid = refused 7
 
-unfoldable pub headOf : Number → Number → Told Head
-headOf (Value rate) (Value length) = cond (leb 16000 rate) (says (record { rate = rate; length = length })) (refused 7)
-headOf (Value rate) Invalid = refused 7
-headOf Invalid length = refused 7
-
 unfoldable pub readFirstLine : List ℕ → Told Head
 readFirstLine line =
-    let b = body line in
-    cond (ended line && hasFields 2 b) (headOf (decimal 96000 (field 0 b)) (decimal 16384 (field 1 b))) (refused 7)
+    let rate = value (decimal 96000 (field 0 (body line))) in
+    let length = decimal 16384 (field 1 (body line)) in
+    ask (ended line && hasFields 2 (body line) && (leb 16000 rate && valid length)) 7 (says (record { rate = rate; length = value length }))
 
 -- ---- the walk over the lines after it
 
@@ -42,13 +36,20 @@ begin head first = record { head = head; place = 0 + List.length first; line = 2
 abbrev pub readLine : Walk → List ℕ → Told Strike
 readLine w line = readCue (w .head .length) (w .cues) (w .«least_start») line
 
--- after a line of n bytes; what is no cue changes neither the count nor the least start
-abbrev pub after : Walk → ℕ → Told Strike → Walk
-after w n (says s) = record { head = w .head; place = w .place + n; line = (w .line + 1) % 2 ^ 32; cues = w .cues + 1; «least_start» = s .start + 1 }
-after w n (refused m) = record { head = w .head; place = w .place + n; line = (w .line + 1) % 2 ^ 32; cues = w .cues; «least_start» = w .«least_start» }
+-- what a line says, or the number of its refusal
+unfoldable pub onTold : {A : Type 0} {B : Type 0} → Told A → (ℕ → B) → (A → B) → B
+onTold (says x) otherwise then = then x
+onTold (refused n) otherwise then = otherwise n
 
+-- what is no cue changes neither the count nor the least start
 unfoldable pub next : Walk → List ℕ → Walk
-next w line = after w (List.length line) (readLine w line)
+next w line = record {
+  head = w .head;
+  place = w .place + List.length line;
+  line = (w .line + 1) % 2 ^ 32;
+  cues = onTold (readLine w line) (λ _. w .cues) λ _. w .cues + 1;
+  «least_start» = onTold (readLine w line) (λ _. w .«least_start») λ s. s .start + 1;
+}
 
 -- ---- the judgment: what the first line says and the number of cues, or the number of the first question that is not passed and its line, counted from 1
 pub data SheetAnswer : Type 0 where
@@ -60,17 +61,14 @@ abbrev pub answer : Judgment → SheetAnswer
 answer (Accepted head cues) = accepted head cues
 answer (Refused refusal line) = refusedAt (number refusal) line
 
-unfoldable pub onTold : {A : Type 0} → Told A → ℕ → (A → SheetAnswer) → SheetAnswer
-onTold (says x) line f = f x
-onTold (refused n) line f = refusedAt n line
-
 unfoldable pub judgeFrom : Walk → List (List ℕ) → SheetAnswer
 unfolding onTold
 judgeFrom w [] = accepted (w .head) (w .cues)
-judgeFrom w (line ∷ lines) = onTold (readLine w line) (w .line) λ _. judgeFrom (next w line) lines
+judgeFrom w (line ∷ lines) = onTold (readLine w line) (λ n. refusedAt n (w .line)) λ _. judgeFrom (next w line) lines
 
 unfoldable pub judge : List ℕ → SheetAnswer
-judge sheet = onTold (readFirstLine (lineAt 0 sheet)) 1 λ head. judgeFrom (begin head (lineAt 0 sheet)) (drop 1 (lines sheet))
+judge sheet =
+    onTold (readFirstLine (lineAt 0 sheet)) (λ n. refusedAt n 1) λ head. judgeFrom (begin head (lineAt 0 sheet)) (drop 1 (lines sheet))
 
 -- ---- the cues, in their order: of a refused sheet, those of the lines that pass
 

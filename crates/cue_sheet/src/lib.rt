@@ -1,5 +1,6 @@
 // A cue sheet: its lines read, one walk over them, and the sheet judged. Nothing is stored: whoever renders a sheet walks over its lines again.
 mod answer; // answer.rt: the sheet's own refusals
+mod field; // field.rt: a line's fields
 mod line; // line.rt: one cue line
 
 pub use answer::SheetRefusal;
@@ -10,7 +11,10 @@ ghost use mathlib.Core.Path.{_≡_};
 ghost use Rattle.text.specs.Read.{lineAt};
 ghost use Rattle.cue_sheet.specs.CueLine.{told};
 ghost use Rattle.cue_sheet.specs.Sheet as spec;
-use text::read::Number;
+use crate::field::both;
+use crate::field::field;
+use crate::field::value;
+use text::read::decimal;
 
 // What the first line says.
 pub struct Head {
@@ -65,65 +69,39 @@ impl Walk {
         ensures walk { λ r. ⌜ r .walk ≡ spec.next self (lineAt (self .place) (now (sheet .entry))) ⌝ }
     {
         let place = text::read::line_end(sheet, self.place);
-        let head = self.head;
         let line = read_cue(
-            line::part(sheet, self.place, place),
-            head.length,
+            field::part(sheet, self.place, place),
+            self.head.length,
             self.cues,
             self.least_start,
         );
-        let number = std::num::wrapping_add_u32(self.line, 1);
+        let mut walk = self;
+        walk.place = place;
+        walk.line = std::num::wrapping_add_u32(self.line, 1);
         match line {
-            Line::Cue(start, _) => Step {
-                line,
-                walk: Walk {
-                    head,
-                    place,
-                    line: number,
-                    cues: self.cues + 1,
-                    least_start: start + 1,
-                },
-            },
-            Line::Refused(_) => Step {
-                line,
-                walk: Walk {
-                    head,
-                    place,
-                    line: number,
-                    cues: self.cues,
-                    least_start: self.least_start,
-                },
-            },
+            Line::Cue(start, _) => {
+                walk.cues = self.cues + 1;
+                walk.least_start = start + 1;
+                Step { line, walk }
+            }
+            Line::Refused(_) => Step { line, walk },
         }
     }
 }
 
-fn head_of(rate: Number, length: Number) -> FirstLine
-    ensures { λ r. ⌜ spec.toldFirst r ≡ spec.headOf rate length ⌝ }
-{
-    let Number::Value(rate) = rate else {
-        return FirstLine::Invalid;
-    };
-    let Number::Value(length) = length else {
-        return FirstLine::Invalid;
-    };
-    if rate < 16000 {
-        return FirstLine::Invalid;
-    }
-    FirstLine::Head(Head { rate, length })
-}
-
-// `rate,length` and a line end.
+// `rate,length` and a line end. A malformed rate counts as 0.
 pub fn read_first_line(line: &[u8]) -> FirstLine
     ensures { λ r. ⌜ spec.toldFirst r ≡ spec.readFirstLine (now (line .entry)) ⌝ }
 {
     let body = text::read::body(line);
-    let comma = text::read::field_end(body, 0);
-    let end = text::read::field_end(body, comma + 1);
-    let rate = text::read::decimal(line::part(body, 0, comma), 96000);
-    let length = text::read::decimal(line::part(body, comma + 1, end), 16384);
-    if line::both(text::read::ended(line), end == body.len()) {
-        return head_of(rate, length);
+    let rate = value(decimal(field(body, 0), 96000));
+    let length = decimal(field(body, 1), 16384);
+    let numbers = both(16000 <= rate, field::valid(length));
+    if both(field::whole(line, 1), numbers) {
+        return FirstLine::Head(Head {
+            rate,
+            length: value(length),
+        });
     }
     FirstLine::Invalid
 }
@@ -132,7 +110,7 @@ pub fn judge(sheet: &[u8]) -> Judgment
     ensures { λ r. ⌜ spec.answer r ≡ spec.judge (now (sheet .entry)) ⌝ }
 {
     let first = text::read::line_end(sheet, 0);
-    let FirstLine::Head(head) = read_first_line(line::part(sheet, 0, first)) else {
+    let FirstLine::Head(head) = read_first_line(field::part(sheet, 0, first)) else {
         return Judgment::Refused {
             refusal: SheetRefusal::FirstLine,
             line: 1,
@@ -142,14 +120,11 @@ pub fn judge(sheet: &[u8]) -> Judgment
     while walk.place < sheet.len() {
         let step = walk.next(sheet);
         let line = step.line;
-        match line {
-            Line::Refused(refusal) => {
-                return Judgment::Refused {
-                    refusal,
-                    line: walk.line,
-                };
-            }
-            Line::Cue(_, _) => {}
+        if let Line::Refused(refusal) = line {
+            return Judgment::Refused {
+                refusal,
+                line: walk.line,
+            };
         }
         walk = step.walk;
     }

@@ -1,20 +1,19 @@
 // One line after the first, `start,voice,accent,f0,a,decay,c`: its fields, the questions that it must pass, and its cue.
 ghost use mathlib.Core.Path.{_≡_};
-ghost use mathlib.Core.Bool.{cond, _&&_};
-ghost use mathlib.Core.List.{[]};
-ghost use Prim.Native.Nat.{_-_, _≤_};
-ghost use lib.Dec.{leb};
-ghost use lib.ListN as List;
-ghost use lib.ListN.{take, drop};
-ghost use Rattle.refusal.specs.Refusal.{answerNumber};
-ghost use Rattle.text.specs.Read.{decimal, pattern};
-ghost use Rattle.cue_sheet.specs.Answer.{askedNumber};
+ghost use Rattle.cue_sheet.specs.Answer.{number, ask};
 ghost use Rattle.cue_sheet.specs.CueLine as spec;
-use crate::answer;
-use crate::answer::Asked;
 use crate::answer::SheetRefusal;
-use refusal::Answer;
+use crate::field::both;
+use crate::field::field;
+use crate::field::valid;
+use crate::field::value;
+use ieee754::from_bits;
+use refusal::Refusal;
+use refusal::is_bass_decay;
+use refusal::is_frequency;
+use refusal::is_unit;
 use text::read::Number;
+use text::read::pattern;
 
 // One of four strikes, each with its own knobs.
 pub enum Cue {
@@ -54,74 +53,16 @@ pub enum Line {
     Refused(SheetRefusal),
 }
 
-// A start's field: whether it is well formed, and its number.
-struct Start {
-    valid: bool,
-    value: u32,
-}
-
-// A knob's field: whether it is well formed, and its float.
-struct Knob {
-    valid: bool,
-    value: f32,
-}
-
-// The fields of a line. It is whole if it has seven and a line end. What a and c set depends on the voice, which is a letter.
+// The fields of a line. It is well formed if it has a line end and seven fields that are. What a and c set depends on the voice, a letter.
 struct Fields {
-    whole: bool,
-    start: Start,
+    formed: bool,
+    start: u32,
     voice: u8,
-    accent: Knob,
-    f0: Knob,
-    a: Knob,
-    decay: Knob,
-    c: Knob,
-}
-
-// The bytes from one place to another; none where there are not so many.
-pub(crate) fn part(s: &[u8], from: usize, to: usize) -> &[u8]
-    requires { ⌜ from ≤ to ⌝ }
-    ensures { λ r. ⌜ now r ≡ cond (leb to (List.length (now (s .entry)))) (take (to - from) (drop from (now (s .entry)))) [] ⌝ }
-{
-    if to <= s.len() {
-        return &s[from..to];
-    }
-    &s[..0]
-}
-
-pub(crate) fn both(a: bool, b: bool) -> bool
-    ensures { λ r. ⌜ r ≡ (a && b) ⌝ }
-{
-    if a { b } else { false }
-}
-
-// 0 where it is malformed.
-fn read_start(field: &[u8]) -> Start
-    ensures { λ r. ⌜ r ≡ spec.startOf (decimal 99999 (now (field .entry))) ⌝ }
-{
-    match text::read::decimal(field, 99999) {
-        Number::Value(value) => Start { valid: true, value },
-        Number::Invalid => Start {
-            valid: false,
-            value: 0,
-        },
-    }
-}
-
-// 0.0 where it is malformed.
-fn read_knob(field: &[u8]) -> Knob
-    ensures { λ r. ⌜ r ≡ spec.knobOf (pattern (now (field .entry))) ⌝ }
-{
-    match text::read::pattern(field) {
-        Number::Value(bits) => Knob {
-            valid: true,
-            value: ieee754::from_bits(bits),
-        },
-        Number::Invalid => Knob {
-            valid: false,
-            value: 0.0,
-        },
-    }
+    accent: f32,
+    f0: f32,
+    a: f32,
+    decay: f32,
+    c: f32,
 }
 
 // The one byte of a field; 0 where it has not one.
@@ -146,142 +87,103 @@ fn is_voice(letter: u8) -> bool
     }
 }
 
-// The fields from left to right, each by its end, which is the place of a comma or the line's end.
+// The decay of a bass goes up to 2.0, that of any other voice up to 1.0.
+fn is_decay(voice: u8, decay: f32) -> bool
+    ensures { λ r. ⌜ r ≡ spec.isDecay voice decay ⌝ }
+{
+    if voice == b'b' {
+        return is_bass_decay(decay);
+    }
+    is_unit(decay)
+}
+
+// A knob's field is the bit pattern of a float.
 fn read_fields(line: &[u8]) -> Fields
     ensures { λ r. ⌜ r ≡ spec.readFields (now (line .entry)) ⌝ }
 {
     let body = text::read::body(line);
-    let end = text::read::field_end(body, 0);
-    let start = read_start(part(body, 0, end));
-    let at = end + 1;
-    let end = text::read::field_end(body, at);
-    let voice = letter(part(body, at, end));
-    let at = end + 1;
-    let end = text::read::field_end(body, at);
-    let accent = read_knob(part(body, at, end));
-    let at = end + 1;
-    let end = text::read::field_end(body, at);
-    let f0 = read_knob(part(body, at, end));
-    let at = end + 1;
-    let end = text::read::field_end(body, at);
-    let a = read_knob(part(body, at, end));
-    let at = end + 1;
-    let end = text::read::field_end(body, at);
-    let decay = read_knob(part(body, at, end));
-    let at = end + 1;
-    let end = text::read::field_end(body, at);
-    let c = read_knob(part(body, at, end));
-    let whole = both(text::read::ended(line), end == body.len());
+    let start = text::read::decimal(field(body, 0), 99999);
+    let voice = letter(field(body, 1));
+    let accent = pattern(field(body, 2));
+    let f0 = pattern(field(body, 3));
+    let a = pattern(field(body, 4));
+    let decay = pattern(field(body, 5));
+    let c = pattern(field(body, 6));
+    let last = both(valid(a), both(valid(decay), valid(c)));
+    let knobs = both(valid(accent), both(valid(f0), last));
+    let fields = both(valid(start), both(is_voice(voice), knobs));
     Fields {
-        whole,
-        start,
+        formed: both(crate::field::whole(line, 6), fields),
+        start: value(start),
         voice,
-        accent,
-        f0,
-        a,
-        decay,
-        c,
+        accent: from_bits(value(accent)),
+        f0: from_bits(value(f0)),
+        a: from_bits(value(a)),
+        decay: from_bits(value(decay)),
+        c: from_bits(value(c)),
     }
 }
 
-impl Fields {
-    fn well_formed(self) -> bool
-        ensures { λ r. ⌜ r ≡ spec.wellFormed self ⌝ }
-    {
-        let last = both(self.decay.valid, self.c.valid);
-        let knobs = both(
-            self.accent.valid,
-            both(self.f0.valid, both(self.a.valid, last)),
-        );
-        both(
-            self.whole,
-            both(self.start.valid, both(is_voice(self.voice), knobs)),
-        )
-    }
-
-    // What the voices ask of the knobs, the last question first.
-    fn knobs_asked(self) -> Answer
-        ensures { λ r. ⌜ answerNumber r ≡ spec.knobsRefusal self ⌝ }
-    {
-        let c = refusal::ask_knob(self.c.value, Answer::Accepted);
-        let decay = ask_decay(self.voice, self.decay.value, c);
-        let a = refusal::ask_knob(self.a.value, decay);
-        let accent = refusal::ask_accent(self.accent.value, a);
-        refusal::ask_frequency(self.f0.value, accent)
-    }
-
-    // All questions, the last one first.
-    fn asked(self, length: u32, cues: u32, least_start: u32) -> Asked
-        ensures { λ r. ⌜ askedNumber r ≡ spec.cueRefusal length cues «least_start» self ⌝ }
-    {
-        let start = self.start.value;
-        let knobs = answer::of_knobs(self.knobs_asked());
-        let rising = answer::ask(least_start <= start, SheetRefusal::CueStart, knobs);
-        let inside = answer::ask(start < length, SheetRefusal::CueStart, rising);
-        let formed = answer::ask(self.well_formed(), SheetRefusal::CueLine, inside);
-        answer::ask(cues < 64, SheetRefusal::CueCount, formed)
-    }
-
-    fn cue(self) -> Cue
-        ensures { λ r. ⌜ r ≡ spec.cueOf self ⌝ }
-    {
-        let voice = self.voice;
-        let accent = self.accent.value;
-        let f0 = self.f0.value;
-        let a = self.a.value;
-        let decay = self.decay.value;
-        let c = self.c.value;
-        match voice {
-            b'b' => Cue::Bass {
-                accent,
-                f0,
-                tone: a,
-                decay,
-                attack_fm_amount: c,
-            },
-            b's' => Cue::Snare {
-                accent,
-                f0,
-                tone: a,
-                decay,
-                snappy: c,
-            },
-            b'y' => Cue::SyntheticSnare {
-                accent,
-                f0,
-                fm_amount: a,
-                decay,
-                snappy: c,
-            },
-            _ => Cue::Hihat {
-                accent,
-                f0,
-                tone: a,
-                decay,
-                noisiness: c,
-            },
-        }
-    }
-}
-
-// The decay of a bass goes up to 2.0, that of any other voice up to 1.0.
-fn ask_decay(voice: u8, decay: f32, next: Answer) -> Answer
-    ensures { λ r. ⌜ answerNumber r ≡ spec.askDecay voice decay (answerNumber next) ⌝ }
+fn cue_of(fields: Fields) -> Cue
+    ensures { λ r. ⌜ r ≡ spec.cueOf fields ⌝ }
 {
-    if voice == b'b' {
-        return refusal::ask_bass_decay(decay, next);
+    let voice = fields.voice;
+    match voice {
+        b'b' => Cue::Bass {
+            accent: fields.accent,
+            f0: fields.f0,
+            tone: fields.a,
+            decay: fields.decay,
+            attack_fm_amount: fields.c,
+        },
+        b's' => Cue::Snare {
+            accent: fields.accent,
+            f0: fields.f0,
+            tone: fields.a,
+            decay: fields.decay,
+            snappy: fields.c,
+        },
+        b'y' => Cue::SyntheticSnare {
+            accent: fields.accent,
+            f0: fields.f0,
+            fm_amount: fields.a,
+            decay: fields.decay,
+            snappy: fields.c,
+        },
+        _ => Cue::Hihat {
+            accent: fields.accent,
+            f0: fields.f0,
+            tone: fields.a,
+            decay: fields.decay,
+            noisiness: fields.c,
+        },
     }
-    refusal::ask_knob(decay, next)
 }
 
-// A line, its line end included, in a sheet of `length` samples, after `cues` cues. The start before it is below `least_start`.
+// One question: the refusal where it is not passed, and what the questions after it say where it is.
+fn ask(passes: bool, refusal: SheetRefusal, next: Line) -> Line
+    ensures { λ r. ⌜ spec.told r ≡ ask passes (number refusal) (spec.told next) ⌝ }
+{
+    if passes { next } else { Line::Refused(refusal) }
+}
+
+// A line, its line end included, in a sheet of `length` samples, after `cues` cues. The start before it is below `least_start`. The questions
+// stand with the last one first.
 pub fn read_cue(line: &[u8], length: u32, cues: u32, least_start: u32) -> Line
     ensures { λ r. ⌜ spec.told r ≡ spec.readCue length cues «least_start» (now (line .entry)) ⌝ }
 {
     let fields = read_fields(line);
-    let asked = fields.asked(length, cues, least_start);
-    match asked {
-        Asked::Refused(refusal) => Line::Refused(refusal),
-        Asked::Accepted => Line::Cue(fields.start.value, fields.cue()),
-    }
+    let frequency = SheetRefusal::Knobs(Refusal::Frequency);
+    let accent = SheetRefusal::Knobs(Refusal::Accent);
+    let knob = SheetRefusal::Knobs(Refusal::Knob);
+    let next = Line::Cue(fields.start, cue_of(fields));
+    let next = ask(is_unit(fields.c), knob, next);
+    let next = ask(is_decay(fields.voice, fields.decay), knob, next);
+    let next = ask(is_unit(fields.a), knob, next);
+    let next = ask(is_unit(fields.accent), accent, next);
+    let next = ask(is_frequency(fields.f0), frequency, next);
+    let next = ask(least_start <= fields.start, SheetRefusal::CueStart, next);
+    let next = ask(fields.start < length, SheetRefusal::CueStart, next);
+    let next = ask(fields.formed, SheetRefusal::CueLine, next);
+    ask(cues < 64, SheetRefusal::CueCount, next)
 }

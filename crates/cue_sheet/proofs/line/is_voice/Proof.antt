@@ -4,12 +4,9 @@ use Rattle.cue_sheet.specs.CueLine.{isVoice}
 use Rattle.cue_sheet.proofs.line.is_voice.Statement.{statement}
 use Rattle.cue_sheet.proofs.line.is_voice.Tie as tie
 
-returns-5 : tie.Need-returns-5
-unfolding isVoice
-returns-5 c = let r = c .match .rest in rw (ne-eqb _ _ (r .0 .0 .0 .1), ne-eqb _ _ (r .0 .0 .1), ne-eqb _ _ (r .0 .1), ne-eqb _ _ (r .1))
-
 pub is-voice-spec : {M : Type 1} → statement M
 unfolding isVoice
 is-voice-spec =
     tie.close
-    (tie.spec (λ c. rw (c .match .keys1)) (λ c. rw (c .match .keys2)) (λ c. rw (c .match .keys3)) (λ c. rw (c .match .keys4)) returns-5)
+    (tie.spec (λ c. rw (c .match .keys1)) (λ c. rw (c .match .keys2)) (λ c. rw (c .match .keys3)) (λ c. rw (c .match .keys4))
+    (λ c. let r = c .match .rest in rw (ne-eqb _ _ (r .0 .0 .0 .1), ne-eqb _ _ (r .0 .0 .1), ne-eqb _ _ (r .0 .1), ne-eqb _ _ (r .1))))

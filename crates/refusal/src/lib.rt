@@ -58,6 +58,27 @@ fn within(low: f32, high: f32, x: f32) -> bool
     low <= x && x <= high
 }
 
+// The smallest frequency is 2^-20, written out.
+pub fn is_frequency(f0: f32) -> bool
+    ensures { λ r. ⌜ r ≡ spec.isFrequency f0 ⌝ }
+{
+    within(0.00000095367431640625, 0.5, f0)
+}
+
+// Accent and the other knobs, but for one.
+pub fn is_unit(x: f32) -> bool
+    ensures { λ r. ⌜ r ≡ spec.isUnit x ⌝ }
+{
+    within(0.0, 1.0, x)
+}
+
+// The one knob that goes further: the decay of the bass, whose thud rings longer in a large pipe.
+pub fn is_bass_decay(x: f32) -> bool
+    ensures { λ r. ⌜ r ≡ spec.isBassDecay x ⌝ }
+{
+    within(0.0, 2.0, x)
+}
+
 // Each call asks its own questions, in the order of their numbers. `next` is the answer of the questions after it.
 pub fn ask_sample_rate(sample_rate_hz: f32, next: Answer) -> Answer
     ensures { λ r. ⌜ spec.answerNumber r ≡ spec.ask (spec.isSampleRate «sample_rate_hz») 1 (spec.answerNumber next) ⌝ }
@@ -75,7 +96,6 @@ pub fn ask_block_length(samples: usize, next: Answer) -> Answer
     ask(samples <= 16384, Refusal::BlockLength, next)
 }
 
-// The smallest frequency is 2^-20, written out.
 pub fn ask_frequency(f0: f32, next: Answer) -> Answer
     ensures { λ r. ⌜ spec.answerNumber r ≡ spec.ask (spec.isFrequency f0) 3 (spec.answerNumber next) ⌝ }
 {
@@ -89,18 +109,17 @@ pub fn ask_frequency(f0: f32, next: Answer) -> Answer
 pub fn ask_accent(accent: f32, next: Answer) -> Answer
     ensures { λ r. ⌜ spec.answerNumber r ≡ spec.ask (spec.isUnit accent) 4 (spec.answerNumber next) ⌝ }
 {
-    ask(within(0.0, 1.0, accent), Refusal::Accent, next)
+    ask(is_unit(accent), Refusal::Accent, next)
 }
 
 pub fn ask_knob(knob: f32, next: Answer) -> Answer
     ensures { λ r. ⌜ spec.answerNumber r ≡ spec.ask (spec.isUnit knob) 5 (spec.answerNumber next) ⌝ }
 {
-    ask(within(0.0, 1.0, knob), Refusal::Knob, next)
+    ask(is_unit(knob), Refusal::Knob, next)
 }
 
-// The one knob that goes further: the decay of the bass, whose thud rings longer in a large pipe.
 pub fn ask_bass_decay(decay: f32, next: Answer) -> Answer
     ensures { λ r. ⌜ spec.answerNumber r ≡ spec.ask (spec.isBassDecay decay) 5 (spec.answerNumber next) ⌝ }
 {
-    ask(within(0.0, 2.0, decay), Refusal::Knob, next)
+    ask(is_bass_decay(decay), Refusal::Knob, next)
 }

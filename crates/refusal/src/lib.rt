@@ -99,11 +99,7 @@ pub fn ask_block_length(samples: usize, next: Answer) -> Answer
 pub fn ask_frequency(f0: f32, next: Answer) -> Answer
     ensures { λ r. ⌜ spec.answerNumber r ≡ spec.ask (spec.isFrequency f0) 3 (spec.answerNumber next) ⌝ }
 {
-    ask(
-        within(0.00000095367431640625, 0.5, f0),
-        Refusal::Frequency,
-        next,
-    )
+    ask(is_frequency(f0), Refusal::Frequency, next)
 }
 
 pub fn ask_accent(accent: f32, next: Answer) -> Answer

@@ -34,10 +34,6 @@ rest (x ∷ xs) = rw (line-next (x ∷ xs) 0 (0 + List.length (lineAt 0 (x ∷ x
 
 -- ---- one line after the other
 module _ (w : Walk) (line : List ℕ) where
-  pub next-place : next w line .place ≡ w .place + List.length line
-  unfolding next
-  next-place = refl
-
   pub next-head : next w line .head ≡ w .head
   unfolding next
   next-head = refl
@@ -56,12 +52,13 @@ module _ (sheet : List ℕ) (w : Walk) (more : w .place < List.length sheet) whe
   here = lineAt (w .place) sheet
 
   pub next-less : List.length sheet - next w here .place < List.length sheet - w .place
-  next-less = line-less sheet (w .place) (next w here .place) (next-place w here) more
+  unfolding next
+  next-less = line-less sheet (w .place) (next w here .place) refl more
 
   pub split : lines (drop (w .place) sheet) ≡ here ∷ lines (drop (next w here .place) sheet)
-  unfolding lineAt
+  unfolding lineAt next
   split =
-      let e = line-next sheet (w .place) (next w here .place) (next-place w here) more in
+      let e = line-next sheet (w .place) (next w here .place) refl more in
       e ∙ ap (λ (l : List ℕ). l ∷ lines (drop (next w here .place) sheet)) (sym (ap (λ (ls : List (List ℕ)). getD ls 0 []) e))
 
   -- the cues from here on: that of the line, if it is one, and those after it

@@ -21,7 +21,8 @@ module _ (s : List ℕ) (at e : ℕ) (ends : e ≡ at + List.length (lineAt at s
     where
       go : Dec (at < List.length s) → ((at ≤ e) × (e ≤ max at (List.length s))) × (take (e - at) (drop at s) ≡ lineAt at s)
       go (yes more) =
-          ((omega arith, omega (arith, line-inside s at e ends more)), sym (ap (λ (ls : List (List ℕ)). getD ls 0 []) (line-next s at e ends more)))
+          let first = ap (λ (ls : List (List ℕ)). getD ls 0 []) (line-next s at e ends more) in
+          ((omega arith, omega (arith, line-inside s at e ends more)), sym first)
       go (no over) =
           let none : lineAt at s ≡ [] = rw (lines-over s at (omega arith)) in
           let same : e - at ≡ 0 = omega (arith, ap List.length none) in
@@ -56,13 +57,12 @@ module _ (sheet : List ℕ) (w : Walk) (more : w .place < List.length sheet) whe
   next-less = line-less sheet (w .place) (next w here .place) refl more
 
   pub split : lines (drop (w .place) sheet) ≡ here ∷ lines (drop (next w here .place) sheet)
-  unfolding lineAt next
-  split =
-      let e = line-next sheet (w .place) (next w here .place) refl more in
-      e ∙ ap (λ (l : List ℕ). l ∷ lines (drop (next w here .place) sheet)) (sym (ap (λ (ls : List (List ℕ)). getD ls 0 []) e))
+  unfolding next
+  split = rw (line-next sheet (w .place) (next w here .place) refl more, line-part sheet (w .place) (next w here .place) refl .1)
 
   -- the cues from here on: that of the line, if it is one, and those after it
-  pub line-struck : strikesFrom w (lines (drop (w .place) sheet)) ≡ struck (readLine w here) (strikesFrom (next w here) (lines (drop (next w here .place) sheet)))
+  pub line-struck : strikesFrom w (lines (drop (w .place) sheet))
+      ≡ struck (readLine w here) (strikesFrom (next w here) (lines (drop (next w here .place) sheet)))
   unfolding strikesFrom
   line-struck = rw split
 

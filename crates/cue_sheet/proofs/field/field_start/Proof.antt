@@ -20,5 +20,8 @@ unfolding fieldStart
 field-start-spec =
     tie.close
     (tie.spec Inv-loop μ-loop (λ c. (refl, (omega arith, omega arith))) (λ c κs. tt) (λ c. search needs) (λ c. search needs) (λ c. search needs)
-    (λ c. let at = c .before .before .loop in (rw add-one (next-starts _ (at .i) (at .inv .0) (c .field-end .ensures .0)), (omega arith, omega arith)))
+    (λ c. let at = c .before .before .loop in (
+      rw add-one (next-starts _ (at .i) (at .inv .0) (c .field-end .ensures .0)),
+      (omega arith, omega arith),
+    ))
     (λ c. let same : c .before .loop .i ≡ c .before .before .before .args .k = omega arith in rw same at (sym (c .before .loop .inv .0))))

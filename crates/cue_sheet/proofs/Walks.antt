@@ -21,7 +21,8 @@ module _ (s : List ℕ) (at e : ℕ) (ends : e ≡ at + List.length (lineAt at s
     where
       go : Dec (at < List.length s) → ((at ≤ e) × (e ≤ max at (List.length s))) × (take (e - at) (drop at s) ≡ lineAt at s)
       go (yes more) =
-          ((omega arith, omega (arith, line-inside s at e ends more)), sym (ap (λ (ls : List (List ℕ)). getD ls 0 []) (line-next s at e ends more)))
+          let first = ap (λ (ls : List (List ℕ)). getD ls 0 []) (line-next s at e ends more) in
+          ((omega arith, omega (arith, line-inside s at e ends more)), sym first)
       go (no over) =
           let none : lineAt at s ≡ [] = rw (lines-over s at (omega arith)) in
           let same : e - at ≡ 0 = omega (arith, ap List.length none) in
@@ -34,10 +35,6 @@ rest (x ∷ xs) = rw (line-next (x ∷ xs) 0 (0 + List.length (lineAt 0 (x ∷ x
 
 -- ---- one line after the other
 module _ (w : Walk) (line : List ℕ) where
-  pub next-place : next w line .place ≡ w .place + List.length line
-  unfolding next
-  next-place = refl
-
   pub next-head : next w line .head ≡ w .head
   unfolding next
   next-head = refl
@@ -56,16 +53,16 @@ module _ (sheet : List ℕ) (w : Walk) (more : w .place < List.length sheet) whe
   here = lineAt (w .place) sheet
 
   pub next-less : List.length sheet - next w here .place < List.length sheet - w .place
-  next-less = line-less sheet (w .place) (next w here .place) (next-place w here) more
+  unfolding next
+  next-less = line-less sheet (w .place) (next w here .place) refl more
 
   pub split : lines (drop (w .place) sheet) ≡ here ∷ lines (drop (next w here .place) sheet)
-  unfolding lineAt
-  split =
-      let e = line-next sheet (w .place) (next w here .place) (next-place w here) more in
-      e ∙ ap (λ (l : List ℕ). l ∷ lines (drop (next w here .place) sheet)) (sym (ap (λ (ls : List (List ℕ)). getD ls 0 []) e))
+  unfolding next
+  split = rw (line-next sheet (w .place) (next w here .place) refl more, line-part sheet (w .place) (next w here .place) refl .1)
 
   -- the cues from here on: that of the line, if it is one, and those after it
-  pub line-struck : strikesFrom w (lines (drop (w .place) sheet)) ≡ struck (readLine w here) (strikesFrom (next w here) (lines (drop (next w here .place) sheet)))
+  pub line-struck : strikesFrom w (lines (drop (w .place) sheet))
+      ≡ struck (readLine w here) (strikesFrom (next w here) (lines (drop (next w here .place) sheet)))
   unfolding strikesFrom
   line-struck = rw split
 

@@ -11,10 +11,6 @@ ghost use mathlib.Core.Path.{_≡_};
 ghost use Rattle.text.specs.Read.{lineAt};
 ghost use Rattle.cue_sheet.specs.CueLine.{told};
 ghost use Rattle.cue_sheet.specs.Sheet as spec;
-use crate::field::both;
-use crate::field::field;
-use crate::field::value;
-use text::read::decimal;
 
 // What the first line says.
 pub struct Head {
@@ -94,14 +90,12 @@ pub fn read_first_line(line: &[u8]) -> FirstLine
     ensures { λ r. ⌜ spec.toldFirst r ≡ spec.readFirstLine (now (line .entry)) ⌝ }
 {
     let body = text::read::body(line);
-    let rate = value(decimal(field(body, 0), 96000));
-    let length = decimal(field(body, 1), 16384);
-    let numbers = both(16000 <= rate, field::valid(length));
-    if both(field::whole(line, 1), numbers) {
-        return FirstLine::Head(Head {
-            rate,
-            length: value(length),
-        });
+    let rate = field::value(text::read::decimal(field::field(body, 0), 96000));
+    let length = text::read::decimal(field::field(body, 1), 16384);
+    let numbers = field::both(16000 <= rate, field::valid(length));
+    if field::both(field::whole(line, 1), numbers) {
+        let length = field::value(length);
+        return FirstLine::Head(Head { rate, length });
     }
     FirstLine::Invalid
 }

@@ -12,7 +12,6 @@ use refusal::Refusal;
 use refusal::is_bass_decay;
 use refusal::is_frequency;
 use refusal::is_unit;
-use text::read::Number;
 use text::read::pattern;
 
 // One of four strikes, each with its own knobs.

@@ -62,6 +62,6 @@ pub judge-spec : {M : Type 1} → statement M
 unfolding judgeFrom
 judge-spec =
     tie.close
-    (tie.spec Inv-loop μ-loop (λ c κs. tt) (λ c κs. line-part _ _ _ (c .line-end .ensures) .0) (λ c κs. tt) (λ c. search needs) (λ c. search needs) refused-first (λ c κs. tt)
-    loop-holds (λ c κs. tt) (λ c. search needs) refused-line (λ c. search needs) loop-less loop-again
+    (tie.spec Inv-loop μ-loop (λ c κs. tt) (λ c κs. line-part _ _ _ (c .line-end .ensures) .0) (λ c κs. tt) (λ c. search needs)
+    (λ c. search needs) refused-first (λ c κs. tt) loop-holds (λ c κs. tt) (λ c. search needs) refused-line (λ c. search needs) loop-less loop-again
     (λ c. sym (c .before .before .before .loop .inv ∙ rw (lines-over _ _ (c .before .if1 .left)))))

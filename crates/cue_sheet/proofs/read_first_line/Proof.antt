@@ -11,9 +11,9 @@ returns c =
     let valid = test .before .before .before in
     let rate = valid .before .before .before in
     let first = rate .before .before in
-    rw (← test .before .whole .ensures, ← first .before .body .ensures, ← first .field .ensures, ← rate .before .decimal .ensures, ← rate .value .ensures)
-    (rw (← valid .before .before .field2 .ensures, ← valid .before .decimal2 .ensures, ← valid .valid .ensures, ← test .before .before .both .ensures)
-    (rw (← test .both2 .ensures, c .before .if1 .taken, ← c .value2 .ensures)))
+    rw (← test .before .whole .ensures, ← first .before .body .ensures, ← first .field .ensures, ← rate .before .decimal .ensures)
+    (rw (← rate .value .ensures, ← valid .before .before .field2 .ensures, ← valid .before .decimal2 .ensures, ← valid .valid .ensures)
+    (rw (← test .before .before .both .ensures, ← test .both2 .ensures, c .before .if1 .taken, ← c .value2 .ensures)))
 
 returns-2 : tie.Need-returns-2
 unfolding readFirstLine
@@ -22,9 +22,9 @@ returns-2 c =
     let valid = test .before .before .before in
     let rate = valid .before .before .before in
     let first = rate .before .before in
-    rw (← test .before .whole .ensures, ← first .before .body .ensures, ← first .field .ensures, ← rate .before .decimal .ensures, ← rate .value .ensures)
-    (rw (← valid .before .before .field2 .ensures, ← valid .before .decimal2 .ensures, ← valid .valid .ensures, ← test .before .before .both .ensures)
-    (rw (← test .both2 .ensures, c .if1 .left)))
+    rw (← test .before .whole .ensures, ← first .before .body .ensures, ← first .field .ensures, ← rate .before .decimal .ensures)
+    (rw (← rate .value .ensures, ← valid .before .before .field2 .ensures, ← valid .before .decimal2 .ensures, ← valid .valid .ensures)
+    (rw (← test .before .before .both .ensures, ← test .both2 .ensures, c .if1 .left)))
 
 pub read-first-line-spec : {M : Type 1} → statement M
 read-first-line-spec =

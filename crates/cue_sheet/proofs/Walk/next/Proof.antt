@@ -16,7 +16,8 @@ add-walk c =
 add-walk-2 : tie.Need-add-walk-2
 add-walk-2 c =
     let read = c .before .before .before .before .before in
-    omega (arith, cue-passed _ _ _ _ (sym (rw (c .before .before .line .given .1) at (read .read-cue .ensures))) .inside, read .before .before .before .before .good)
+    let p = cue-passed _ _ _ _ (sym (rw (c .before .before .line .given .1) at (read .read-cue .ensures))) in
+    omega (arith, p .inside, read .before .before .before .before .good)
 
 returns : tie.Need-returns
 unfolding next onTold
@@ -37,5 +38,5 @@ returns-2 c =
 pub next-spec : {M : Type 1} → statement M
 next-spec =
     tie.close
-    (tie.spec (λ c κs. tt) (λ c κs. line-part _ _ _ (c .line-end .ensures) .0) (λ c κs. tt) (λ c κs. tt) (λ c. search needs) add-walk add-walk-2 (λ c. search needs)
-    returns returns-2)
+    (tie.spec (λ c κs. tt) (λ c κs. line-part _ _ _ (c .line-end .ensures) .0) (λ c κs. tt) (λ c κs. tt) (λ c. search needs)
+    add-walk add-walk-2 (λ c. search needs) returns returns-2)

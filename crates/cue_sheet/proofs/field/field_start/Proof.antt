@@ -3,7 +3,7 @@ use borrow.Author.Needs.{needs}
 use Prim.Native.Nat.{_+_, _-_, _≤_}
 use native.Mathlib.Omega.{arith}
 use native.Mathlib.Numerals.{add-one}
-use mathlib.Core.Path.{_≡_, refl, sym, _∙_}
+use mathlib.Core.Path.{_≡_, refl, sym}
 use lib.ListN.{length}
 use Rattle.text.proofs.Fields.{fieldStart, next-starts}
 use Rattle.cue_sheet.proofs.field.field_start.Statement.{statement}
@@ -15,20 +15,13 @@ Inv-loop line k at₀ i₀ at i = (fieldStart i line ≡ at) × ((i ≤ k) × (a
 abbrev μ-loop : tie.MeasureT-loop
 μ-loop line k at₀ i₀ at i = k - i
 
-loop-again : tie.Need-loop-again Inv-loop μ-loop
-loop-again c =
-    let at = c .before .before .loop in
-    (rw add-one (next-starts _ _ (at .inv .0) (c .field-end .ensures .0)), (omega arith, omega (arith, c .field-end .ensures .1)))
-
-returns : tie.Need-returns Inv-loop μ-loop
-returns c =
-    let at = c .before .loop in
-    let same : at .i ≡ c .before .before .before .args .k = omega arith in
-    sym (at .inv .0) ∙ rw same
-
 pub field-start-spec : {M : Type 1} → statement M
 unfolding fieldStart
 field-start-spec =
     tie.close
     (tie.spec Inv-loop μ-loop (λ c. (refl, (omega arith, omega arith))) (λ c κs. tt) (λ c. search needs) (λ c. search needs) (λ c. search needs)
-    loop-again returns)
+    (λ c. let at = c .before .before .loop in (
+      rw add-one (next-starts _ (at .i) (at .inv .0) (c .field-end .ensures .0)),
+      (omega arith, omega arith),
+    ))
+    (λ c. let same : c .before .loop .i ≡ c .before .before .before .args .k = omega arith in rw same at (sym (c .before .loop .inv .0))))

@@ -3,9 +3,12 @@ use Rattle.cue_sheet.specs.CueLine.{readCue}
 use Rattle.cue_sheet.proofs.line.read_cue.Statement.{statement}
 use Rattle.cue_sheet.proofs.line.read_cue.Tie as tie
 
-returns : tie.Need-returns
+pub read-cue-spec : {M : Type 1} → statement M
 unfolding readCue
-returns c =
+read-cue-spec =
+    tie.close
+    (tie.spec (λ c κs. tt) (λ c κs. tt) (λ c κs. tt) (λ c κs. tt) (λ c κs. tt) (λ c κs. tt) (λ c κs. tt) (λ c κs. tt)
+    (λ c κs. tt) (λ c κs. tt) (λ c κs. tt) (λ c κs. tt) (λ c κs. tt) (λ c κs. tt) (λ c κs. tt) (λ c κs. tt) λ c.
     let c₁ = c .before .before .before .before in
     let c₂ = c₁ .before .before .before .before in
     let c₃ = c₂ .before .before .before .before in
@@ -14,10 +17,4 @@ returns c =
     (rw (c₁ .before .before .before .is-frequency .ensures, c₂ .ask4 .ensures, c₂ .before .is-unit3 .ensures)
     (rw (c₂ .before .before .ask3 .ensures, c₂ .before .before .before .is-unit2 .ensures, c₃ .ask2 .ensures, c₃ .before .is-decay .ensures)
     (rw (c₃ .before .before .ask .ensures, c₃ .before .before .before .is-unit .ensures, c₄ .cue-of .ensures)
-    (rw (c₄ .before .read-fields .ensures)))))
-
-pub read-cue-spec : {M : Type 1} → statement M
-read-cue-spec =
-    tie.close
-    (tie.spec (λ c κs. tt) (λ c κs. tt) (λ c κs. tt) (λ c κs. tt) (λ c κs. tt) (λ c κs. tt) (λ c κs. tt) (λ c κs. tt)
-    (λ c κs. tt) (λ c κs. tt) (λ c κs. tt) (λ c κs. tt) (λ c κs. tt) (λ c κs. tt) (λ c κs. tt) (λ c κs. tt) returns)
+    (rw (c₄ .before .read-fields .ensures))))))

@@ -2,3 +2,4 @@
 pub mod Answer
 pub mod CueLine
 pub mod Sheet
+pub mod Cursor

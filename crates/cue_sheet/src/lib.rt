@@ -90,10 +90,13 @@ pub fn read_first_line(line: &[u8]) -> FirstLine
     ensures { λ r. ⌜ spec.toldFirst r ≡ spec.readFirstLine (now (line .entry)) ⌝ }
 {
     let body = text::read::body(line);
-    let rate = field::value(text::read::decimal(field::field(body, 0), 96000));
-    let length = text::read::decimal(field::field(body, 1), 16384);
+    let comma = field::after_field(body, 0, 0);
+    let rate = field::value(text::read::decimal(field::part(body, 0, comma - 1), 96000));
+    let end = field::after_field(body, 1, comma);
+    let length = text::read::decimal(field::part(body, comma, end - 1), 16384);
     let numbers = field::both(16000 <= rate, field::valid(length));
-    if field::both(field::whole(line, 1), numbers) {
+    let whole = field::both(text::read::ended(line), end == body.len() + 1);
+    if field::both(whole, numbers) {
         let length = field::value(length);
         return FirstLine::Head(Head { rate, length });
     }

@@ -3,8 +3,9 @@ ghost use mathlib.Core.Path.{_≡_};
 ghost use Rattle.cue_sheet.specs.Answer.{number, ask};
 ghost use Rattle.cue_sheet.specs.CueLine as spec;
 use crate::answer::SheetRefusal;
+use crate::field::after_field;
 use crate::field::both;
-use crate::field::field;
+use crate::field::part;
 use crate::field::valid;
 use crate::field::value;
 use ieee754::from_bits;
@@ -101,18 +102,27 @@ fn read_fields(line: &[u8]) -> Fields
     ensures { λ r. ⌜ r ≡ spec.readFields (now (line .entry)) ⌝ }
 {
     let body = text::read::body(line);
-    let start = text::read::decimal(field(body, 0), 99999);
-    let voice = letter(field(body, 1));
-    let accent = pattern(field(body, 2));
-    let f0 = pattern(field(body, 3));
-    let a = pattern(field(body, 4));
-    let decay = pattern(field(body, 5));
-    let c = pattern(field(body, 6));
+    let past = body.len() + 1;
+    let p1 = after_field(body, 0, 0);
+    let start = text::read::decimal(part(body, 0, p1 - 1), 99999);
+    let p2 = after_field(body, 1, p1);
+    let voice = letter(part(body, p1, p2 - 1));
+    let p3 = after_field(body, 2, p2);
+    let accent = pattern(part(body, p2, p3 - 1));
+    let p4 = after_field(body, 3, p3);
+    let f0 = pattern(part(body, p3, p4 - 1));
+    let p5 = after_field(body, 4, p4);
+    let a = pattern(part(body, p4, p5 - 1));
+    let p6 = after_field(body, 5, p5);
+    let decay = pattern(part(body, p5, p6 - 1));
+    let p7 = after_field(body, 6, p6);
+    let c = pattern(part(body, p6, p7 - 1));
     let last = both(valid(a), both(valid(decay), valid(c)));
     let knobs = both(valid(accent), both(valid(f0), last));
     let fields = both(valid(start), both(is_voice(voice), knobs));
+    let whole = both(text::read::ended(line), p7 == past);
     Fields {
-        formed: both(crate::field::whole(line, 6), fields),
+        formed: both(whole, fields),
         start: value(start),
         voice,
         accent: from_bits(value(accent)),

@@ -151,8 +151,7 @@ renderRefusal accent k samples =
     (ask (isUnit (k .tone)) 5
     (ask (isBassDecay (k .decay)) 5
     (ask (isUnit (k .«attack_fm_amount»)) 5
-    (ask (isUnit (k .«self_fm_amount»)) 5
-    0))))))
+    (ask (isUnit (k .«self_fm_amount»)) 5 0))))))
 
 abbrev pub render : AnalogBassDrum → Bool → Float → Knobs → List Float → Call AnalogBassDrum
 render self trigger accent k out =

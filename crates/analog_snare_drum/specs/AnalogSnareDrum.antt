@@ -172,20 +172,17 @@ step b s =
     -- IC13
     record {
       sample = filtered .out ⊕ shell .shell ⊗ (decimal 1 0 ⊖ b .snappy);
-      next = record {
-        voice = record {
-          «pulse_remaining_samples» = p .«remaining_samples»;
-          pulse = pulse;
-          «pulse_height» = self .«pulse_height»;
-          «pulse_lp» = «pulse_lp»;
-          «noise_envelope» = «noise_envelope»;
-          resonator = shell .resonator;
-          «noise_filter» = filtered .filter;
-          «trigger_pulse_duration» = self .«trigger_pulse_duration»;
-          «pulse_decay_time» = self .«pulse_decay_time»;
-        };
-        noise = draw .word;
-      };
+      next = noisy (record {
+        «pulse_remaining_samples» = p .«remaining_samples»;
+        pulse = pulse;
+        «pulse_height» = self .«pulse_height»;
+        «pulse_lp» = «pulse_lp»;
+        «noise_envelope» = «noise_envelope»;
+        resonator = shell .resonator;
+        «noise_filter» = filtered .filter;
+        «trigger_pulse_duration» = self .«trigger_pulse_duration»;
+        «pulse_decay_time» = self .«pulse_decay_time»;
+      }) (draw .word);
     }
 
 -- the number of the first question that is not passed; 0 where all are
@@ -196,8 +193,7 @@ renderRefusal accent k samples =
     (ask (isUnit accent) 4
     (ask (isUnit (k .tone)) 5
     (ask (isUnit (k .decay)) 5
-    (ask (isUnit (k .snappy)) 5
-    0)))))
+    (ask (isUnit (k .snappy)) 5 0)))))
 
 abbrev pub render : Noisy AnalogSnareDrum → Bool → Float → Knobs → List Float → Call (Noisy AnalogSnareDrum)
 render s trigger accent k out =

@@ -58,8 +58,7 @@ hihatCall v p n =
       noisiness = p .c;
       resonance = true;
       «two_stage_envelope» = false;
-    })
-    (silence n)
+    }) (silence n)
 
 -- ---- only a voice that is struck is called: one that is not adds nothing to the segment, stays as it is and draws no noise
 unfoldable pub into : {State : Type 0} → Playing → Call State → List Float → List Float

@@ -203,8 +203,7 @@ renderRefusal «sample_rate» k samples =
     (ask (isUnit (k .accent)) 4
     (ask (isUnit (k .tone)) 5
     (ask (isUnit (k .decay)) 5
-    (ask (isUnit (k .noisiness)) 5
-    0))))))
+    (ask (isUnit (k .noisiness)) 5 0))))))
 
 abbrev pub render : Noisy Hihat → Bool → VcaType → Knobs → List Float → Call (Noisy Hihat)
 render s trigger «vca_type» k out =

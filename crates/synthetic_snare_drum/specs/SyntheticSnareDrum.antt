@@ -54,7 +54,7 @@ init self «sample_rate_hz» = call (ask (isSampleRate «sample_rate_hz») 1 0) 
 
 -- ---- the lines of `render` before its loop
 
--- what stays the same over the block; size is `out.len()`. The interpolator's increment does: its value is the voice's sustain_gain itself
+-- what stays the same over the block; size is `out.len()`
 unfoldable pub settings : SyntheticSnareDrum → Knobs → ℕ → Settings
 settings self k size =
     let rate = self .«sample_rate_hz» in
@@ -66,23 +66,20 @@ settings self k size =
     let «drum_decay» = decimal 1 0 ⊖ decimal 1 0 ⊘ (decimal 15 3 ⊗ rate) ⊗ ratio semitones in
     let semitones = neg decay ⊗ decimal 60 0 ⊖ snappy ⊗ decimal 7 0 in
     let «snare_decay» = decimal 1 0 ⊖ decimal 1 0 ⊘ (decimal 1 2 ⊗ rate) ⊗ ratio semitones in
-    let «fm_decay» = decimal 1 0 ⊖ decimal 1 0 ⊘ (decimal 7 3 ⊗ rate) in
     let snappy = snappy ⊗ decimal 11 1 ⊖ decimal 5 2 in
     let snappy = clamp snappy (decimal 0 0) (decimal 1 0) in
-    let «drum_level» = sqrt (decimal 1 0 ⊖ snappy) in
-    let «snare_level» = sqrt snappy in
-    let «sustain_gain» = ParameterInterpolator.new (self .«sustain_gain») (k .accent ⊗ decay) size in
     record {
       sustain = k .sustain;
       f0 = k .f0;
       «fm_amount» = «fm_amount»;
       «drum_decay» = «drum_decay»;
       «snare_decay» = «snare_decay»;
-      «fm_decay» = «fm_decay»;
+      «fm_decay» = decimal 1 0 ⊖ decimal 1 0 ⊘ (decimal 7 3 ⊗ rate);
       snappy = snappy;
-      «drum_level» = «drum_level»;
-      «snare_level» = «snare_level»;
-      increment = «sustain_gain» .increment;
+      «drum_level» = sqrt (decimal 1 0 ⊖ snappy);
+      «snare_level» = sqrt snappy;
+      -- `ParameterInterpolator::new(&mut self.sustain_gain, accent * decay, out.len());`: its value is the voice's sustain_gain itself
+      increment = ParameterInterpolator.new (self .«sustain_gain») (k .accent ⊗ decay) size .increment;
     }
 
 unfoldable pub tuned : SyntheticSnareDrum → Settings → SyntheticSnareDrum
@@ -174,21 +171,18 @@ step b size s =
     let snare = (high .out ⊕ decimal 1 1) ⊗ («snare_amplitude» ⊕ fm) ⊗ b .«snare_level» in
     record {
       sample = snare ⊕ drum .out;
-      next = record {
-        voice = record {
-          «sample_rate_hz» = self .«sample_rate_hz»;
-          phase = phase₀ ∷ phase₁ ∷ [];
-          «drum_amplitude» = «drum_amplitude»;
-          «snare_amplitude» = «snare_amplitude»;
-          fm = fm;
-          «sustain_gain» = «sustain_gain»;
-          «hold_counter» = «hold_counter»;
-          «drum_lp» = drum .filter;
-          «snare_hp» = high .filter;
-          «snare_lp» = low .filter;
-        };
-        noise = noise .word;
-      };
+      next = noisy (record {
+        «sample_rate_hz» = self .«sample_rate_hz»;
+        phase = phase₀ ∷ phase₁ ∷ [];
+        «drum_amplitude» = «drum_amplitude»;
+        «snare_amplitude» = «snare_amplitude»;
+        fm = fm;
+        «sustain_gain» = «sustain_gain»;
+        «hold_counter» = «hold_counter»;
+        «drum_lp» = drum .filter;
+        «snare_hp» = high .filter;
+        «snare_lp» = low .filter;
+      }) (noise .word);
     }
 
 -- ---- render
@@ -202,8 +196,7 @@ renderRefusal «sample_rate_hz» k size =
     (ask (isUnit (k .accent)) 4
     (ask (isUnit (k .«fm_amount»)) 5
     (ask (isUnit (k .decay)) 5
-    (ask (isUnit (k .snappy)) 5
-    0))))))
+    (ask (isUnit (k .snappy)) 5 0))))))
 
 abbrev pub render : Noisy SyntheticSnareDrum → Bool → Knobs → List Float → Call (Noisy SyntheticSnareDrum)
 render s trigger k out =

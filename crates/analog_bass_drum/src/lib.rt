@@ -140,7 +140,8 @@ impl AnalogBassDrum {
                 voice: self,
             },
             Answer::Accepted => {
-                let voice = self.triggered(trigger, accent).run(knobs.settings(), out);
+                let settings = knobs.settings();
+                let voice = self.triggered(trigger, accent).run(settings, out);
                 Answered { answer, voice }
             }
         }
@@ -169,18 +170,19 @@ impl AnalogBassDrum {
     {
         let mut voice = self;
         let mut e = voice.excitation(settings);
-        // The pulses come to rest, at most rates in subnormals that their products round back to themselves.
-        // From then on no turn changes the excitation, and products of subnormals are slow: e is kept.
-        let mut at_rest = voice.is_at_rest(e);
         let mut i = 0;
+        while i < out.len() && !voice.is_at_rest(e) {
+            voice = voice.step(settings, e);
+            out[i] = voice.tone_lp;
+            i += 1;
+            e = voice.excitation(settings);
+        }
+        // The pulses have come to rest, at most rates in subnormals that their products round back to themselves.
+        // No turn changes the excitation any more, and products of subnormals are slow: e is kept.
         while i < out.len() {
             voice = voice.step(settings, e);
             out[i] = voice.tone_lp;
             i += 1;
-            if !at_rest {
-                e = voice.excitation(settings);
-                at_rest = voice.is_at_rest(e);
-            }
         }
         voice
     }

@@ -8,10 +8,11 @@ use Rattle.analog_bass_drum.proofs.AnalogBassDrum.render.Tie as tie
 accepted : tie.Need-returns-2
 accepted c =
     let ran = c .before .before in
-    let set = ran .before .before in
-    let known = set .before .before .before .before .asked .ensures in
-    let none = zero-of _ _ known (set .before .before .enum-told2 .given .1) in
-    (known, rw (ran .run .ensures .0, ran .run .ensures .1, set .settings .ensures, set .before .triggered .ensures, none) (refl, refl))
+    let begun = ran .before .before in
+    let set = begun .before in
+    let known = set .before .before .before .asked .ensures in
+    let none = zero-of _ _ known (set .before .enum-told2 .given .1) in
+    (known, rw (ran .run .ensures .0, ran .run .ensures .1, set .settings .ensures, begun .triggered .ensures, none) (refl, refl))
 
 pub render-spec : {M : Type 1} → statement M
 render-spec =

@@ -1,7 +1,8 @@
 -- drums/analog_snare_drum.rs, statement by statement, for `sustain` false. Definitions only.
-use Prim.Native.Nat.{ℕ, zero, suc}
-use mathlib.Core.Bool.{Bool, true, false, cond}
+use Prim.Native.Nat.{ℕ}
+use mathlib.Core.Bool.{Bool, cond}
 use mathlib.Core.List.{List, [], _∷_}
+use lib.Dec.{eqb}
 use lib.IntN.{pos}
 use lib.ListN.{length, getD}
 use lib.Ieee.{Float, nan, binary32, neg, lt, ofInt, toUnsigned}
@@ -107,11 +108,6 @@ triggered self accent =
 unfoldable pub «MODE_FREQUENCIES» : List Float
 «MODE_FREQUENCIES» = decimal 1 0 ∷ decimal 2 0 ∷ decimal 318 2 ∷ decimal 416 2 ∷ decimal 562 2 ∷ []
 
--- `if i == 0 { q } else { q * 0.25 }`
-abbrev pub modeQ : Float → ℕ → Float
-modeQ q zero = q
-modeQ q (suc i) = q ⊗ decimal 25 2
-
 unfoldable pub tunedMode : Svf → Float → Float → Float → Svf
 tunedMode resonator f0 modeFrequency q =
     let f = minimumNumber (f0 ⊗ modeFrequency) (decimal 499 3) in
@@ -120,6 +116,8 @@ tunedMode resonator f0 modeFrequency q =
 -- the filters are set also where the block is empty
 unfoldable pub tuned : Settings → AnalogSnareDrum → AnalogSnareDrum
 tuned b self =
+    -- `if i == 0 { q } else { q * 0.25 }`
+    let q : ℕ → Float = λ i. cond (eqb i 0) (b .q) (b .q ⊗ decimal 25 2) in
     let «f_noise» = clamp (b .f0 ⊗ decimal 16 0) (decimal 0 0) (decimal 499 3) in
     record {
       «pulse_remaining_samples» = self .«pulse_remaining_samples»;
@@ -127,7 +125,7 @@ tuned b self =
       «pulse_height» = self .«pulse_height»;
       «pulse_lp» = self .«pulse_lp»;
       «noise_envelope» = self .«noise_envelope»;
-      resonator = modes (λ i. tunedMode (filterOf (self .resonator) i) (b .f0) (getD «MODE_FREQUENCIES» i nan) (modeQ (b .q) i));
+      resonator = modes (λ i. tunedMode (filterOf (self .resonator) i) (b .f0) (getD «MODE_FREQUENCIES» i nan) (q i));
       «noise_filter» = Filter.setFQ (self .«noise_filter») «f_noise» (decimal 1 0 ⊕ «f_noise» ⊗ decimal 15 1) Fast;
       «trigger_pulse_duration» = self .«trigger_pulse_duration»;
       «pulse_decay_time» = self .«pulse_decay_time»;

@@ -7,6 +7,7 @@ ghost use Rattle.ieee754.specs.Single.{decimal};
 ghost use Rattle.refusal.specs.Refusal.{answerNumber, noisy};
 ghost use Rattle.block.specs.Block.{samples, after};
 ghost use Rattle.analog_snare_drum.specs.AnalogSnareDrum as spec;
+ghost use Rattle.analog_snare_drum.specs.AnalogSnareDrum.{render};
 ghost use Rattle.analog_snare_drum.specs.Excitation.{excitation, AtRest};
 use filter::FilterMode;
 use filter::FrequencyApproximation;
@@ -147,10 +148,10 @@ impl AnalogSnareDrum {
         knobs: Knobs,
         out: &mut [f32],
     ) -> Rendered
-        ensures number { λ r. ⌜ answerNumber (r .answer) ≡ spec.render (noisy self noise) trigger accent knobs (now (out .entry)) .number ⌝ }
-        ensures voice { λ r. ⌜ r .voice ≡ spec.render (noisy self noise) trigger accent knobs (now (out .entry)) .state .voice ⌝ }
-        ensures noise { λ r. ⌜ r .noise ≡ spec.render (noisy self noise) trigger accent knobs (now (out .entry)) .state .noise ⌝ }
-        ensures out { λ _. ⌜ now (out .exit) ≡ spec.render (noisy self noise) trigger accent knobs (now (out .entry)) .out ⌝ }
+        ensures number { λ r. ⌜ answerNumber (r .answer) ≡ render (noisy self noise) trigger accent knobs (now (out .entry)) .number ⌝ }
+        ensures voice { λ r. ⌜ r .voice ≡ render (noisy self noise) trigger accent knobs (now (out .entry)) .state .voice ⌝ }
+        ensures noise { λ r. ⌜ r .noise ≡ render (noisy self noise) trigger accent knobs (now (out .entry)) .state .noise ⌝ }
+        ensures out { λ _. ⌜ now (out .exit) ≡ render (noisy self noise) trigger accent knobs (now (out .entry)) .out ⌝ }
     {
         let answer = knobs.asked(accent, out.len());
         match answer {

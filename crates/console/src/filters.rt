@@ -159,8 +159,8 @@ pub extern "C" fn bechullpi_filter_svf_process_buffer(
     out: &mut [f32],
     mode: FilterMode,
 ) -> Svf
-    ensures filter { λ r. ⌜ r ≡ svf.bufferFilter (Enums.filterMode mode) filter (now (in_ .entry)) (now (out .entry)) ⌝ }
-    ensures block { λ _. ⌜ now (out .exit) ≡ svf.bufferOut (Enums.filterMode mode) filter (now (in_ .entry)) (now (out .entry)) ⌝ }
+    ensures filter { λ r. ⌜ r ≡ svf.processBuffer filter (now (in_ .entry)) (now (out .entry)) (Enums.filterMode mode) .state ⌝ }
+    ensures block { λ _. ⌜ now (out .exit) ≡ svf.processBuffer filter (now (in_ .entry)) (now (out .entry)) (Enums.filterMode mode) .out ⌝ }
 {
     filter.process_buffer(in_, out, enums::filter_mode(mode))
 }

@@ -23,9 +23,7 @@ use Rattle.cue_render.specs.declared.kit.Kit.{Kit}
 
 -- ---- the start: all voices from init, none of them struck, and the noise state at 33
 unfoldable pub unstruck : Playing
-unstruck =
-    let zero = decimal 0 0 in
-    record { struck = false; trigger = false; accent = zero; f0 = zero; a = zero; decay = zero; c = zero }
+unstruck = record { struck = false; trigger = false; accent = decimal 0 0; f0 = decimal 0 0; a = decimal 0 0; decay = decimal 0 0; c = decimal 0 0 }
 
 -- the sample rate is the f32 nearest to the sheet's
 unfoldable pub start : ℕ → Kit

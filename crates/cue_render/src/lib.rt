@@ -9,6 +9,7 @@ ghost use Prim.Native.Nat.{_-_, _≤_};
 ghost use lib.ListN as List;
 ghost use lib.ListN.{take, drop};
 ghost use Rattle.cue_sheet.specs.Sheet as Sheet;
+ghost use Rattle.cue_sheet.specs.Sheet.{strikes};
 ghost use Rattle.cue_render.specs.Kit.{segment, afterSegment};
 ghost use Rattle.cue_render.specs.Calls.{NoneRefused};
 ghost use Rattle.cue_render.specs.Render as spec;
@@ -46,7 +47,7 @@ pub fn render(sheet: &[u8], out: &mut [f32]) -> Judgment
 // The cues of a sheet, line by line; a line that is no cue strikes nothing.
 fn render_lines(sheet: &[u8], head: Head, out: &mut [f32], scratch: &mut [f32])
     requires { ⌜ (head .length ≤ List.length (now out)) × (head .length ≤ List.length (now scratch)) ⌝ }
-    ensures { λ _. ⌜ now (out .exit) ≡ spec.samples head (Sheet.strikes head (now (sheet .entry))) ++ drop (head .length) (now (out .entry)) ⌝ }
+    ensures { λ _. ⌜ now (out .exit) ≡ spec.samples head (strikes head (now (sheet .entry))) ++ drop (head .length) (now (out .entry)) ⌝ }
 {
     let mut kit = Kit::start(head.rate);
     let mut from = 0;

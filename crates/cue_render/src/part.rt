@@ -3,6 +3,7 @@ ghost use mathlib.Core.Path.{_≡_};
 ghost use lib.ListN.{length};
 ghost use Rattle.refusal.specs.Refusal.{noisy};
 ghost use Rattle.cue_render.specs.Part as spec;
+ghost use Rattle.cue_render.specs.Played.{played};
 use crate::mix;
 use analog_bass_drum::AnalogBassDrum;
 use analog_snare_drum::AnalogSnareDrum;
@@ -66,8 +67,8 @@ pub(crate) fn bass(
     p: Playing,
 ) -> AnalogBassDrum
     requires { ⌜ length (now scratch) ≡ length (now out) ⌝ }
-    ensures voice { λ r. ⌜ r ≡ spec.after p (spec.bassCall voice p (length (now (out .entry)))) voice ⌝ }
-    ensures block { λ _. ⌜ now (out .exit) ≡ spec.into p (spec.bassCall voice p (length (now (out .entry)))) (now (out .entry)) ⌝ }
+    ensures voice { λ r. ⌜ r ≡ played spec.bassCall voice p (now (out .entry)) .state ⌝ }
+    ensures out { λ _. ⌜ now (out .exit) ≡ played spec.bassCall voice p (now (out .entry)) .out ⌝ }
 {
     if !p.struck {
         return voice;
@@ -94,8 +95,8 @@ pub(crate) fn snare(
     p: Playing,
 ) -> analog_snare_drum::Rendered
     requires { ⌜ length (now scratch) ≡ length (now out) ⌝ }
-    ensures voice { λ r. ⌜ noisy (r .voice) (r .noise) ≡ spec.after p (spec.snareCall (noisy voice noise) p (length (now (out .entry)))) (noisy voice noise) ⌝ }
-    ensures block { λ _. ⌜ now (out .exit) ≡ spec.into p (spec.snareCall (noisy voice noise) p (length (now (out .entry)))) (now (out .entry)) ⌝ }
+    ensures voice { λ r. ⌜ noisy (r .voice) (r .noise) ≡ played spec.snareCall (noisy voice noise) p (now (out .entry)) .state ⌝ }
+    ensures out { λ _. ⌜ now (out .exit) ≡ played spec.snareCall (noisy voice noise) p (now (out .entry)) .out ⌝ }
 {
     if !p.struck {
         return analog_snare_drum::Rendered {
@@ -124,8 +125,8 @@ pub(crate) fn synthetic_snare(
     p: Playing,
 ) -> synthetic_snare_drum::Rendered
     requires { ⌜ length (now scratch) ≡ length (now out) ⌝ }
-    ensures voice { λ r. ⌜ noisy (r .voice) (r .noise) ≡ spec.after p (spec.syntheticSnareCall (noisy voice noise) p (length (now (out .entry)))) (noisy voice noise) ⌝ }
-    ensures block { λ _. ⌜ now (out .exit) ≡ spec.into p (spec.syntheticSnareCall (noisy voice noise) p (length (now (out .entry)))) (now (out .entry)) ⌝ }
+    ensures voice { λ r. ⌜ noisy (r .voice) (r .noise) ≡ played spec.syntheticSnareCall (noisy voice noise) p (now (out .entry)) .state ⌝ }
+    ensures out { λ _. ⌜ now (out .exit) ≡ played spec.syntheticSnareCall (noisy voice noise) p (now (out .entry)) .out ⌝ }
 {
     if !p.struck {
         return synthetic_snare_drum::Rendered {
@@ -156,8 +157,8 @@ pub(crate) fn hihat(
     p: Playing,
 ) -> hihat::Rendered
     requires { ⌜ length (now scratch) ≡ length (now out) ⌝ }
-    ensures voice { λ r. ⌜ noisy (r .voice) (r .noise) ≡ spec.after p (spec.hihatCall (noisy voice noise) p (length (now (out .entry)))) (noisy voice noise) ⌝ }
-    ensures block { λ _. ⌜ now (out .exit) ≡ spec.into p (spec.hihatCall (noisy voice noise) p (length (now (out .entry)))) (now (out .entry)) ⌝ }
+    ensures voice { λ r. ⌜ noisy (r .voice) (r .noise) ≡ played spec.hihatCall (noisy voice noise) p (now (out .entry)) .state ⌝ }
+    ensures out { λ _. ⌜ now (out .exit) ≡ played spec.hihatCall (noisy voice noise) p (now (out .entry)) .out ⌝ }
 {
     if !p.struck {
         return hihat::Rendered {

@@ -10,7 +10,7 @@ use Rattle.text.specs.Read.{lines, lineAt}
 use Rattle.text.proofs.Lines.{line-inside, line-less, line-next, lines-over}
 use Rattle.cue_sheet.specs.Answer.{says, refused}
 use Rattle.cue_sheet.specs.CueLine.{Strike}
-use Rattle.cue_sheet.specs.Sheet.{onTold, readLine, next, struck, strikesFrom}
+use Rattle.cue_sheet.specs.Sheet.{onTold, readLine, next, strikesFrom}
 use Rattle.cue_sheet.specs.declared.Walk.{Walk}
 
 -- ---- the line at a place
@@ -29,9 +29,9 @@ module _ (s : List ℕ) (at e : ℕ) (ends : e ≡ at + List.length (lineAt at s
           ((omega arith, omega (arith, ap List.length none)), rw (none, same))
 
 -- the lines after the first
-pub rest : (sheet : List ℕ) → drop 1 (lines sheet) ≡ lines (drop (0 + List.length (lineAt 0 sheet)) sheet)
-rest [] = ap (drop 1) (lines-over [] 0 (omega arith)) ∙ sym (lines-over [] (0 + List.length (lineAt 0 [])) (omega arith))
-rest (x ∷ xs) = rw (line-next (x ∷ xs) 0 (0 + List.length (lineAt 0 (x ∷ xs))) refl (omega arith))
+pub rest : (sheet : List ℕ) → drop 1 (lines sheet) ≡ lines (drop (List.length (lineAt 0 sheet)) sheet)
+rest [] = ap (drop 1) (lines-over [] 0 (omega arith)) ∙ sym (lines-over [] (List.length (lineAt 0 [])) (omega arith))
+rest (x ∷ xs) = rw (line-next (x ∷ xs) 0 (List.length (lineAt 0 (x ∷ xs))) (omega arith) (omega arith))
 
 -- ---- one line after the other
 module _ (w : Walk) (line : List ℕ) where
@@ -62,7 +62,7 @@ module _ (sheet : List ℕ) (w : Walk) (more : w .place < List.length sheet) whe
 
   -- the cues from here on: that of the line, if it is one, and those after it
   pub line-struck : strikesFrom w (lines (drop (w .place) sheet))
-      ≡ struck (readLine w here) (strikesFrom (next w here) (lines (drop (next w here .place) sheet)))
+      ≡ onTold (readLine w here) (λ _ strikes. strikes) _∷_ (strikesFrom (next w here) (lines (drop (next w here .place) sheet)))
   unfolding strikesFrom
   line-struck = rw split
 

@@ -27,8 +27,8 @@ unfoldable pub isVoice : ℕ → Bool
 isVoice x = eqb x (code "b") || eqb x (code "s") || eqb x (code "y") || eqb x (code "h")
 
 -- a knob is the bit pattern of a float
-abbrev pub knob : Number → Float
-knob n = ofBits binary32 (value n)
+abbrev pub knob : List ℕ → Float
+knob field = ofBits binary32 (value (pattern field))
 
 -- well formed are a line end and seven fields that are; a start has one to five digits
 unfoldable pub readFields : List ℕ → Fields
@@ -36,21 +36,16 @@ readFields line =
     let b = body line in
     let start = decimal 99999 (field 0 b) in
     let voice = letter (field 1 b) in
-    let accent = pattern (field 2 b) in
-    let f0 = pattern (field 3 b) in
-    let a = pattern (field 4 b) in
-    let decay = pattern (field 5 b) in
-    let c = pattern (field 6 b) in
-    let knobs = valid accent && (valid f0 && (valid a && (valid decay && valid c))) in
+    let isKnob : ℕ → Bool = λ k. valid (pattern (field k b)) in
     record {
-      formed = ended line && hasFields 7 b && (valid start && (isVoice voice && knobs));
+      formed = ended line && hasFields 7 b && (valid start && (isVoice voice && (isKnob 2 && (isKnob 3 && (isKnob 4 && (isKnob 5 && isKnob 6))))));
       start = value start;
       voice = voice;
-      accent = knob accent;
-      f0 = knob f0;
-      a = knob a;
-      decay = knob decay;
-      c = knob c;
+      accent = knob (field 2 b);
+      f0 = knob (field 3 b);
+      a = knob (field 4 b);
+      decay = knob (field 5 b);
+      c = knob (field 6 b);
     }
 
 -- ---- the cue: a is the tone, or the fm_amount of y, and c what the voice has last

@@ -31,7 +31,7 @@ readFirstLine line =
 -- ---- the walk over the lines after it
 
 abbrev pub begin : Head → List ℕ → Walk
-begin head first = record { head = head; place = 0 + List.length first; line = 2; cues = 0; «least_start» = 0 }
+begin head first = record { head = head; place = List.length first; line = 2; cues = 0; «least_start» = 0 }
 
 abbrev pub readLine : Walk → List ℕ → Told Strike
 readLine w line = readCue (w .head .length) (w .cues) (w .«least_start») line
@@ -72,13 +72,9 @@ judge sheet =
 
 -- ---- the cues, in their order: of a refused sheet, those of the lines that pass
 
-unfoldable pub struck : Told Strike → List Strike → List Strike
-struck (says s) strikes = s ∷ strikes
-struck (refused n) strikes = strikes
-
 unfoldable pub strikesFrom : Walk → List (List ℕ) → List Strike
 strikesFrom w [] = []
-strikesFrom w (line ∷ lines) = struck (readLine w line) (strikesFrom (next w line) lines)
+strikesFrom w (line ∷ lines) = onTold (readLine w line) (λ _ strikes. strikes) _∷_ (strikesFrom (next w line) lines)
 
 unfoldable pub strikes : Head → List ℕ → List Strike
 strikes head sheet = strikesFrom (begin head (lineAt 0 sheet)) (drop 1 (lines sheet))

@@ -3,6 +3,7 @@ use mathlib.Core.List.{List, _++_}
 use lib.ListN.{length, take, drop}
 use lib.Ieee.{Float}
 use Rattle.ieee754.specs.Single.{_⊕_, _⊖_, _⊗_, _⊘_, decimal}
+use Rattle.block.specs.Block as Block
 use Rattle.block.specs.Block.{Turn, scan, scanned}
 use Rattle.filter.specs.declared.Svf.{Svf}
 use Rattle.filter.specs.declared.Passed.{Passed}
@@ -76,13 +77,8 @@ stage mode s «in_» =
     let o = process s «in_» mode in
     record { sample = o .out; next = o .filter }
 
--- the samples of `in_` that have a place in `out`: the Rust's `in_.iter().zip(out.iter_mut())`
-abbrev pub paired : List Float → List Float → List Float
-paired «in_» out = take (length out) «in_»
-
--- the filter after `process_buffer`, and what `out` then holds
-abbrev pub bufferFilter : FilterMode → Svf → List Float → List Float → Svf
-bufferFilter mode s «in_» out = scanned (stage mode) s (paired «in_» out)
-
-abbrev pub bufferOut : FilterMode → Svf → List Float → List Float → List Float
-bufferOut mode s «in_» out = scan (stage mode) s (paired «in_» out) ++ drop (length (paired «in_» out)) out
+-- the samples of `in_` that have a place in `out`, the Rust's `in_.iter().zip(out.iter_mut())`, and then what `out` held
+abbrev pub processBuffer : Svf → List Float → List Float → FilterMode → Block.Passed Svf
+processBuffer s «in_» out mode =
+    let paired = take (length out) «in_» in
+    record { state = scanned (stage mode) s paired; out = scan (stage mode) s paired ++ drop (length paired) out }

@@ -258,7 +258,7 @@ impl Svf {
 
     // `process` of a filter lent by reference: the filter is copied out, and the one that comes back is stored in its place.
     pub fn process_mut(&mut self, in_: f32, mode: FilterMode) -> f32
-        ensures { λ r. ⌜ (r ≡ svf.process (now (self .entry)) in_ mode .out) × (now (self .exit) ≡ svf.process (now (self .entry)) in_ mode .filter) ⌝ }
+        ensures { λ r. let o = svf.process (now (self .entry)) in_ mode in ⌜ (r ≡ o .out) × (now (self .exit) ≡ o .filter) ⌝ }
     {
         let o = Svf::process(*self, in_, mode);
         *self = o.filter;
@@ -279,8 +279,8 @@ impl Svf {
 
     // As many samples as the shorter slice has; the rest of `out` keeps what it held.
     pub fn process_buffer(self, in_: &[f32], out: &mut [f32], mode: FilterMode) -> Self
-        ensures { λ r. ⌜ r ≡ svf.bufferFilter mode self (now (in_ .entry)) (now (out .entry)) ⌝ }
-        ensures { λ _. ⌜ now (out .exit) ≡ svf.bufferOut mode self (now (in_ .entry)) (now (out .entry)) ⌝ }
+        ensures filter { λ r. ⌜ r ≡ svf.processBuffer self (now (in_ .entry)) (now (out .entry)) mode .state ⌝ }
+        ensures out { λ _. ⌜ now (out .exit) ≡ svf.processBuffer self (now (in_ .entry)) (now (out .entry)) mode .out ⌝ }
     {
         let n = shorter(in_.len(), out.len());
         let mut filter = self;

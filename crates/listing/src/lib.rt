@@ -5,7 +5,7 @@ use random::Draw;
 ghost use mathlib.Core.List.{[], _∷_, _++_};
 ghost use lib.Ieee.{binary32, toBits};
 ghost use Rattle.text.specs.Write as Write;
-ghost use Rattle.text.specs.Write.{Written, Whole};
+ghost use Rattle.text.specs.Write.{ascii, Written, Whole};
 ghost use Rattle.listing.specs.Cues as Cues;
 ghost use Rattle.listing.specs.Draws as Draws;
 
@@ -77,7 +77,7 @@ fn put_samples(out: &mut [u8], at: usize, samples: &[f32]) -> usize
 
 // The header and the samples' rows.
 fn put_listing(out: &mut [u8], samples: &[f32]) -> usize
-    ensures { λ r. ⌜ Written (now (out .entry)) 0 (Write.ascii "sample,bits\n" ++ Cues.rows 0 (now (samples .entry))) r (now (out .exit)) ⌝ }
+    ensures { λ r. ⌜ Written (now (out .entry)) 0 (ascii "sample,bits\n" ++ Cues.rows 0 (now (samples .entry))) r (now (out .exit)) ⌝ }
 {
     let end = text::write::bytes(out, 0, b"sample,bits\n");
     put_samples(out, end, samples)

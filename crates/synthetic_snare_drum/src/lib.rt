@@ -9,6 +9,7 @@ ghost use Rattle.ieee754.specs.Operations.{abs};
 ghost use Rattle.refusal.specs.Refusal.{answerNumber, noisy};
 ghost use Rattle.block.specs.Block.{samples, after};
 ghost use Rattle.synthetic_snare_drum.specs.SyntheticSnareDrum as spec;
+ghost use Rattle.synthetic_snare_drum.specs.SyntheticSnareDrum.{render};
 ghost use Rattle.synthetic_snare_drum.specs.Parts.{turned, enveloped};
 use filter::FilterMode;
 use filter::FrequencyApproximation;
@@ -124,10 +125,10 @@ impl SyntheticSnareDrum {
     }
 
     pub fn render(self, noise: u32, trigger: bool, knobs: Knobs, out: &mut [f32]) -> Rendered
-        ensures number { λ r. ⌜ answerNumber (r .answer) ≡ spec.render (noisy self noise) trigger knobs (now (out .entry)) .number ⌝ }
-        ensures voice { λ r. ⌜ r .voice ≡ spec.render (noisy self noise) trigger knobs (now (out .entry)) .state .voice ⌝ }
-        ensures noise { λ r. ⌜ r .noise ≡ spec.render (noisy self noise) trigger knobs (now (out .entry)) .state .noise ⌝ }
-        ensures out { λ _. ⌜ now (out .exit) ≡ spec.render (noisy self noise) trigger knobs (now (out .entry)) .out ⌝ }
+        ensures number { λ r. ⌜ answerNumber (r .answer) ≡ render (noisy self noise) trigger knobs (now (out .entry)) .number ⌝ }
+        ensures voice { λ r. ⌜ r .voice ≡ render (noisy self noise) trigger knobs (now (out .entry)) .state .voice ⌝ }
+        ensures noise { λ r. ⌜ r .noise ≡ render (noisy self noise) trigger knobs (now (out .entry)) .state .noise ⌝ }
+        ensures out { λ _. ⌜ now (out .exit) ≡ render (noisy self noise) trigger knobs (now (out .entry)) .out ⌝ }
     {
         let answer = knobs.asked(self.sample_rate_hz, out.len());
         match answer {

@@ -21,10 +21,7 @@ unfoldable pub softLimit : Float → Float
 softLimit x = x ⊗ (decimal 27 0 ⊕ x ⊗ x) ⊘ (decimal 27 0 ⊕ decimal 9 0 ⊗ x ⊗ x)
 
 unfoldable pub softClip : Float → Float
-softClip x =
-    cond (lt x (neg (decimal 3 0))) (neg (decimal 1 0))
-    (cond (lt (decimal 3 0) x) (decimal 1 0)
-    (softLimit x))
+softClip x = cond (lt x (neg (decimal 3 0))) (neg (decimal 1 0)) (cond (lt (decimal 3 0) x) (decimal 1 0) (softLimit x))
 
 abbrev pub sqrt : Float → Float
 sqrt x = Root.sqrt binary32 x

@@ -2,17 +2,17 @@
 use borrow.Author.Needs.{needs}
 use Prim.Native.Nat.{_-_, _<_}
 use native.Mathlib.Omega.{arith}
-use lib.ListN.{length, length-take}
+use lib.ListN.{length, take, length-take}
 use lib.Seq.{getD-take}
 use lib.Ieee.{nan}
 use denote.Ref.{now}
 use Rattle.block.proofs.Blocks.{Going, begin, turn, end}
-use Rattle.filter.specs.Svf.{stage, paired}
+use Rattle.filter.specs.Svf.{stage}
 use Rattle.filter.proofs.Svf.process_buffer.Statement.{statement}
 use Rattle.filter.proofs.Svf.process_buffer.Tie as tie
 
 abbrev Inv-loop : tie.InvT-loop
-Inv-loop in- out₀ mode n filter₀ i₀ out filter i = Going (stage mode) filter₀ (paired in- out₀) out₀ filter out i
+Inv-loop in- out₀ mode n filter₀ i₀ out filter i = Going (stage mode) filter₀ (take (length out₀) in-) out₀ filter out i
 
 abbrev μ-loop : tie.MeasureT-loop
 μ-loop in- out₀ mode n filter₀ i₀ out filter i = n - i

@@ -25,8 +25,7 @@ use Rattle.hihat.proofs.Rate.{rate-kept}
 use Rattle.hihat.specs.declared.VcaType.the-variants.{Swing}
 use Rattle.cue_sheet.specs.Answer.{Told, says, refused}
 use Rattle.cue_sheet.specs.CueLine.{Strike}
-use Rattle.cue_sheet.specs.Sheet.{readLine, next, strikesFrom, strikes}
-use Rattle.cue_sheet.specs.Sheet as Sheet
+use Rattle.cue_sheet.specs.Sheet.{readLine, onTold, next, strikesFrom, strikes}
 use Rattle.cue_sheet.specs.declared.Walk.{Walk}
 use Rattle.cue_sheet.specs.declared.line.Cue.{Cue}
 use Rattle.cue_sheet.specs.declared.line.Cue.the-variants.{Bass, Snare, SyntheticSnare as Synthetic, Hihat}
@@ -145,11 +144,11 @@ CuesIn length [] = Unit {0}
 CuesIn length (s ∷ ss) = (s .start < length) × KnobsOf (s .cue) × CuesIn length ss
 
 cues-in : (length : ℕ) (w : Walk) (ls : List (List ℕ)) → w .head .length ≡ length → CuesIn length (strikesFrom w ls)
-unfolding strikesFrom Sheet.struck CuesIn
+unfolding strikesFrom onTold CuesIn
 cues-in length w [] h = tt
 cues-in length w (line ∷ ls) h = go (readLine w line) refl (cues-in length (next w line) ls (ap (λ (k : Head). k .length) (next-head w line) ∙ h))
   where
-    go : (x : Told Strike) → readLine w line ≡ x → CuesIn length (strikesFrom (next w line) ls) → CuesIn length (Sheet.struck x (strikesFrom (next w line) ls))
+    go : (x : Told Strike) → readLine w line ≡ x → CuesIn length (strikesFrom (next w line) ls) → CuesIn length (onTold x (λ _ strikes. strikes) _∷_ (strikesFrom (next w line) ls))
     go (says s) e ih = let p = cue-passed _ _ _ _ e in (rw h at (p .inside), p .knobs, ih)
     go (refused n) e ih = ih
 

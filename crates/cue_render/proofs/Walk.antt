@@ -10,7 +10,7 @@ use lib.Ieee.{Float}
 use Rattle.text.specs.Read.{lines, lineAt}
 use Rattle.cue_sheet.specs.Answer.{says, refused}
 use Rattle.cue_sheet.specs.CueLine.{Strike}
-use Rattle.cue_sheet.specs.Sheet.{begin, readLine, next, struck, strikesFrom, strikes}
+use Rattle.cue_sheet.specs.Sheet.{begin, readLine, onTold, next, strikesFrom, strikes}
 use Rattle.cue_sheet.specs.declared.Head.{Head}
 use Rattle.cue_sheet.specs.declared.Walk.{Walk}
 use Rattle.cue_sheet.proofs.Questions.{cue-passed}
@@ -73,7 +73,7 @@ module _ {sheet : List ℕ} {head : Head} {out₀ : List Float} {kit : KitT} {fr
   module _ (more : w .place < List.length sheet) where
     -- a line that is no cue
     pub passes : {n : ℕ} → readLine w here ≡ refused n → Walking sheet head out₀ kit from (next w here) out
-    unfolding struck
+    unfolding onTold
     passes e = record {
       same = next-head w here ∙ g .same;
       inside = g .inside;
@@ -95,7 +95,7 @@ module _ {sheet : List ℕ} {head : Head} {out₀ : List Float} {kit : KitT} {fr
       pub turn : {out′ : List Float} {kit₁ kit₂ : KitT} → kit₁ ≡ afterSegment kit (s .start - from)
           → out′ ≡ take from out ++ (segment kit (s .start - from) ++ drop (s .start) out)
           → List.length out′ ≡ List.length out → kit₂ ≡ Kit.strike kit₁ (s .cue) → Walking sheet head out₀ kit₂ (s .start) (next w here) out′
-      unfolding samplesFrom struck
+      unfolding samplesFrom onTold
       turn {out′ = out′} after written long struck-is =
           let to = s .start in
           let seg = segment kit (to - from) in

@@ -1,7 +1,11 @@
 // One line after the first, `start,voice,accent,f0,a,decay,c`: its fields, the questions that it must pass, and its cue.
 ghost use mathlib.Core.Path.{_≡_};
-ghost use Rattle.cue_sheet.specs.Answer.{number, ask};
+ghost use Prim.Native.Nat.{_≤_};
+ghost use Rattle.text.specs.Read.{field, pattern};
+ghost use Rattle.text.proofs.Fields.{fieldStart};
+ghost use Rattle.cue_sheet.specs.Answer.{number, ask, valid};
 ghost use Rattle.cue_sheet.specs.CueLine as spec;
+ghost use Rattle.cue_sheet.specs.Cursor.{AfterField};
 use crate::answer::SheetRefusal;
 use crate::field::after_field;
 use crate::field::both;
@@ -65,6 +69,13 @@ struct Fields {
     c: f32,
 }
 
+// A knob's field: whether it is well formed, its knob, and the place after it.
+struct KnobField {
+    formed: bool,
+    knob: f32,
+    after: usize,
+}
+
 // The one byte of a field; 0 where it has not one.
 fn letter(field: &[u8]) -> u8
     ensures { λ r. ⌜ r ≡ spec.letter (now (field .entry)) ⌝ }
@@ -97,7 +108,22 @@ fn is_decay(voice: u8, decay: f32) -> bool
     is_unit(decay)
 }
 
-// A knob's field is the bit pattern of a float.
+// The knob of field k, which starts at `at`: the bit pattern of a float.
+fn read_knob(line: &[u8], k: usize, at: usize) -> KnobField
+    requires { ⌜ (k ≤ 6) × (fieldStart k (now line) ≡ at) ⌝ }
+    ensures formed { λ r. ⌜ r .formed ≡ valid (pattern (field k (now (line .entry)))) ⌝ }
+    ensures knob { λ r. ⌜ r .knob ≡ spec.knob (field k (now (line .entry))) ⌝ }
+    ensures after { λ r. ⌜ AfterField (now (line .entry)) k at (r .after) ⌝ }
+{
+    let after = after_field(line, k, at);
+    let number = pattern(part(line, at, after - 1));
+    KnobField {
+        formed: valid(number),
+        knob: from_bits(value(number)),
+        after,
+    }
+}
+
 fn read_fields(line: &[u8]) -> Fields
     ensures { λ r. ⌜ r ≡ spec.readFields (now (line .entry)) ⌝ }
 {
@@ -107,29 +133,24 @@ fn read_fields(line: &[u8]) -> Fields
     let start = text::read::decimal(part(body, 0, p1 - 1), 99999);
     let p2 = after_field(body, 1, p1);
     let voice = letter(part(body, p1, p2 - 1));
-    let p3 = after_field(body, 2, p2);
-    let accent = pattern(part(body, p2, p3 - 1));
-    let p4 = after_field(body, 3, p3);
-    let f0 = pattern(part(body, p3, p4 - 1));
-    let p5 = after_field(body, 4, p4);
-    let a = pattern(part(body, p4, p5 - 1));
-    let p6 = after_field(body, 5, p5);
-    let decay = pattern(part(body, p5, p6 - 1));
-    let p7 = after_field(body, 6, p6);
-    let c = pattern(part(body, p6, p7 - 1));
-    let last = both(valid(a), both(valid(decay), valid(c)));
-    let knobs = both(valid(accent), both(valid(f0), last));
+    let accent = read_knob(body, 2, p2);
+    let f0 = read_knob(body, 3, accent.after);
+    let a = read_knob(body, 4, f0.after);
+    let decay = read_knob(body, 5, a.after);
+    let c = read_knob(body, 6, decay.after);
+    let last = both(a.formed, both(decay.formed, c.formed));
+    let knobs = both(accent.formed, both(f0.formed, last));
     let fields = both(valid(start), both(is_voice(voice), knobs));
-    let whole = both(text::read::ended(line), p7 == past);
+    let whole = both(text::read::ended(line), c.after == past);
     Fields {
         formed: both(whole, fields),
         start: value(start),
         voice,
-        accent: from_bits(value(accent)),
-        f0: from_bits(value(f0)),
-        a: from_bits(value(a)),
-        decay: from_bits(value(decay)),
-        c: from_bits(value(c)),
+        accent: accent.knob,
+        f0: f0.knob,
+        a: a.knob,
+        decay: decay.knob,
+        c: c.knob,
     }
 }
 

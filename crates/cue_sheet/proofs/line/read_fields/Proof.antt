@@ -20,12 +20,10 @@ returns c =
     (rw (c .before .before .before .before .before .both6 .ensures, c .before .before .before .before .before .before .both5 .ensures, voice .is-voice .ensures)
     (rw (voice .before .valid .ensures, knobs .both4 .ensures, knobs .before .both3 .ensures, knobs .before .before .both2 .ensures)
     (rw (knobs .before .before .before .both .ensures, last .read-knob5 .ensures .0, last .read-knob5 .ensures .1 .0, last .read-knob5 .ensures .1 .1 .last)
-    (rw (last .before .read-knob4 .ensures .0, last .before .read-knob4 .ensures .1 .0)
-    (rw (last .before .before .read-knob3 .ensures .0, last .before .before .read-knob3 .ensures .1 .0)
-    (rw (last .before .before .before .read-knob2 .ensures .0, last .before .before .before .read-knob2 .ensures .1 .0)
-    (rw (accent .read-knob .ensures .0, accent .read-knob .ensures .1 .0)
-    (rw (letter .letter .ensures, letter .before .part2 .ensures, letter .before .before .after-field2 .ensures .here)
-    (rw (start .decimal .ensures, start .before .part .ensures, start .before .before .after-field .ensures .here, start .before .before .before .body .ensures))))))))))
+    (rw (last .before .read-knob4 .ensures .0, last .before .read-knob4 .ensures .1 .0, last .before .before .read-knob3 .ensures .0)
+    (rw (last .before .before .read-knob3 .ensures .1 .0, last .before .before .before .read-knob2 .ensures .0, last .before .before .before .read-knob2 .ensures .1 .0)
+    (rw (accent .read-knob .ensures .0, accent .read-knob .ensures .1 .0, letter .letter .ensures, letter .before .part2 .ensures, letter .before .before .after-field2 .ensures .here)
+    (rw (start .decimal .ensures, start .before .part .ensures, start .before .before .after-field .ensures .here, start .before .before .before .body .ensures))))))))
 
 pub read-fields-spec : {M : Type 1} → statement M
 unfolding fieldStart

@@ -66,11 +66,12 @@ fn run(blocks: u32, knobs: Knobs, mut side: impl FnMut(f32, Knobs, u32, &mut [f3
     Box::new(move |out| side(black_box(RATE), black_box(knobs), black_box(blocks), out))
 }
 
-/// Each side makes its voice, and renders block after block: the knobs are hidden anew at each.
+/// Each side makes its voice, and renders block after block: the knobs are hidden anew at each, as the side takes them, the port's in a record.
 fn bass_port(rate: f32, knobs: Knobs, blocks: u32, out: &mut [f32]) {
     let mut voice = port::bechullpi_analog_bass_drum_init(port::bechullpi_analog_bass_drum_zero(), rate).voice;
+    let (accent, record) = (knobs[0], port::bass_knobs(knobs));
     for i in 0..blocks {
-        voice = port::bass_render(voice, i == 0, black_box(knobs), out).voice;
+        voice = port::bass_render(voice, i == 0, black_box(accent), black_box(record), out).voice;
     }
 }
 
@@ -85,9 +86,10 @@ fn bass_rust(rate: f32, knobs: Knobs, blocks: u32, out: &mut [f32]) {
 
 fn snare_port(rate: f32, knobs: Knobs, blocks: u32, out: &mut [f32]) {
     let mut voice = port::bechullpi_analog_snare_drum_init(port::bechullpi_analog_snare_drum_zero(), rate).voice;
+    let (accent, record) = (knobs[0], port::snare_knobs(knobs));
     let mut noise = NOISE;
     for i in 0..blocks {
-        let r = port::snare_render(voice, noise, i == 0, black_box(knobs), out);
+        let r = port::snare_render(voice, noise, i == 0, black_box(accent), black_box(record), out);
         (voice, noise) = (r.voice, r.noise);
     }
 }
@@ -104,9 +106,10 @@ fn snare_rust(rate: f32, knobs: Knobs, blocks: u32, out: &mut [f32]) {
 
 fn synthetic_snare_port(rate: f32, knobs: Knobs, blocks: u32, out: &mut [f32]) {
     let mut voice = port::bechullpi_synthetic_snare_drum_init(port::bechullpi_synthetic_snare_drum_zero(), rate).voice;
+    let record = port::synthetic_snare_knobs(false, knobs);
     let mut noise = NOISE;
     for i in 0..blocks {
-        let r = port::synthetic_snare_render(voice, noise, [black_box(false), i == 0], black_box(knobs), out);
+        let r = port::synthetic_snare_render(voice, noise, i == 0, black_box(record), out);
         (voice, noise) = (r.voice, r.noise);
     }
 }
@@ -123,10 +126,10 @@ fn synthetic_snare_rust(rate: f32, knobs: Knobs, blocks: u32, out: &mut [f32]) {
 
 fn hihat_port(rate: f32, knobs: Knobs, blocks: u32, out: &mut [f32]) {
     let mut voice = port::bechullpi_hihat_init(port::bechullpi_hihat_zero(), rate).voice;
+    let record = port::hihat_knobs([false, true, false], knobs);
     let mut noise = NOISE;
     for i in 0..blocks {
-        let [sustain, linear, resonance, two_stage] = black_box([false, false, true, false]);
-        let r = port::hihat_render(voice, noise, [sustain, i == 0, linear, resonance, two_stage], black_box(knobs), out);
+        let r = port::hihat_render(voice, noise, [i == 0, black_box(false)], black_box(record), out);
         (voice, noise) = (r.voice, r.noise);
     }
 }

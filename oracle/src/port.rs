@@ -22,37 +22,48 @@ pub fn sheet(sheet: &[u8], out: &mut [f32]) -> SheetAnswered {
 /// accent, f0, a, decay, c as in a cue line, and the bass's self_fm_amount.
 pub type Knobs = [f32; 6];
 
-pub fn bass_render(voice: AnalogBassDrum, trigger: bool, knobs: Knobs, out: &mut [f32]) -> AnalogBassDrumAnswered {
-    let [accent, f0, tone, decay, attack_fm_amount, self_fm_amount] = knobs;
-    let knobs = AnalogBassDrumKnobs { f0, tone, decay, attack_fm_amount, self_fm_amount };
+pub fn bass_knobs([_, f0, tone, decay, attack_fm_amount, self_fm_amount]: Knobs) -> AnalogBassDrumKnobs {
+    AnalogBassDrumKnobs { f0, tone, decay, attack_fm_amount, self_fm_amount }
+}
+
+pub fn bass_render(voice: AnalogBassDrum, trigger: bool, accent: f32, knobs: AnalogBassDrumKnobs, out: &mut [f32]) -> AnalogBassDrumAnswered {
     unsafe { bechullpi_analog_bass_drum_render(voice, trigger, accent, knobs, out.as_mut_ptr(), out.len()) }
 }
 
-pub fn snare_render(voice: AnalogSnareDrum, noise: u32, trigger: bool, knobs: Knobs, out: &mut [f32]) -> AnalogSnareDrumRendered {
-    let [accent, f0, tone, decay, snappy, _] = knobs;
-    let knobs = AnalogSnareDrumKnobs { f0, tone, decay, snappy };
+pub fn snare_knobs([_, f0, tone, decay, snappy, _]: Knobs) -> AnalogSnareDrumKnobs {
+    AnalogSnareDrumKnobs { f0, tone, decay, snappy }
+}
+
+pub fn snare_render(
+    voice: AnalogSnareDrum,
+    noise: u32,
+    trigger: bool,
+    accent: f32,
+    knobs: AnalogSnareDrumKnobs,
+    out: &mut [f32],
+) -> AnalogSnareDrumRendered {
     unsafe { bechullpi_analog_snare_drum_render(voice, noise, trigger, accent, knobs, out.as_mut_ptr(), out.len()) }
+}
+
+pub fn synthetic_snare_knobs(sustain: bool, [accent, f0, fm_amount, decay, snappy, _]: Knobs) -> SyntheticSnareDrumKnobs {
+    SyntheticSnareDrumKnobs { sustain, accent, f0, fm_amount, decay, snappy }
 }
 
 pub fn synthetic_snare_render(
     voice: SyntheticSnareDrum,
     noise: u32,
-    [sustain, trigger]: [bool; 2],
-    [accent, f0, fm_amount, decay, snappy, _]: Knobs,
+    trigger: bool,
+    knobs: SyntheticSnareDrumKnobs,
     out: &mut [f32],
 ) -> SyntheticSnareDrumRendered {
-    let knobs = SyntheticSnareDrumKnobs { sustain, accent, f0, fm_amount, decay, snappy };
     unsafe { bechullpi_synthetic_snare_drum_render(voice, noise, trigger, knobs, out.as_mut_ptr(), out.len()) }
 }
 
-pub fn hihat_render(
-    voice: Hihat,
-    noise: u32,
-    [sustain, trigger, linear, resonance, two_stage_envelope]: [bool; 5],
-    [accent, f0, tone, decay, noisiness, _]: Knobs,
-    out: &mut [f32],
-) -> HihatRendered {
-    let knobs = HihatKnobs { sustain, accent, f0, tone, decay, noisiness, resonance, two_stage_envelope };
+pub fn hihat_knobs([sustain, resonance, two_stage_envelope]: [bool; 3], [accent, f0, tone, decay, noisiness, _]: Knobs) -> HihatKnobs {
+    HihatKnobs { sustain, accent, f0, tone, decay, noisiness, resonance, two_stage_envelope }
+}
+
+pub fn hihat_render(voice: Hihat, noise: u32, [trigger, linear]: [bool; 2], knobs: HihatKnobs, out: &mut [f32]) -> HihatRendered {
     unsafe { bechullpi_hihat_render(voice, noise, trigger, linear, knobs, out.as_mut_ptr(), out.len()) }
 }
 
@@ -126,23 +137,23 @@ impl Records {
         let [sustain, trigger] = [row.flag(SUSTAIN), row.flag(TRIGGER)];
         match row.voice {
             'b' => {
-                let a = bass_render(self.b, trigger, row.knobs, out);
+                let a = bass_render(self.b, trigger, row.knobs[0], bass_knobs(row.knobs), out);
                 self.b = a.voice;
                 (a.number, row.noise)
             }
             's' => {
-                let a = snare_render(self.s, row.noise, trigger, row.knobs, out);
+                let a = snare_render(self.s, row.noise, trigger, row.knobs[0], snare_knobs(row.knobs), out);
                 self.s = a.voice;
                 (a.number, a.noise)
             }
             'y' => {
-                let a = synthetic_snare_render(self.y, row.noise, [sustain, trigger], row.knobs, out);
+                let a = synthetic_snare_render(self.y, row.noise, trigger, synthetic_snare_knobs(sustain, row.knobs), out);
                 self.y = a.voice;
                 (a.number, a.noise)
             }
             _ => {
-                let flags = [sustain, trigger, row.flag(LINEAR), row.flag(RESONANCE), row.flag(TWO_STAGE)];
-                let a = hihat_render(self.h, row.noise, flags, row.knobs, out);
+                let knobs = hihat_knobs([sustain, row.flag(RESONANCE), row.flag(TWO_STAGE)], row.knobs);
+                let a = hihat_render(self.h, row.noise, [trigger, row.flag(LINEAR)], knobs, out);
                 self.h = a.voice;
                 (a.number, a.noise)
             }

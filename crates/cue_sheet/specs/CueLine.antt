@@ -9,7 +9,6 @@ use lib.ListN as List
 use lib.ListN.{getD}
 use Rattle.refusal.specs.Refusal.{isFrequency, isUnit, isBassDecay}
 use Rattle.text.specs.Read.{ended, body, field, hasFields, decimal, pattern}
-use Rattle.text.specs.declared.read.Number.{Number}
 use Rattle.cue_sheet.specs.declared.line.Cue.{Cue}
 use Rattle.cue_sheet.specs.declared.line.Cue.the-variants.{Bass, Snare, SyntheticSnare, Hihat}
 use Rattle.cue_sheet.specs.declared.line.Line.{Line}

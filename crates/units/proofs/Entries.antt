@@ -14,7 +14,7 @@ use lib.Ieee.Exact.{HasValue}
 use lib.Ieee.Positive.{num, den, den-pos, positive, own-value}
 use Rattle.ieee754.proofs.Numbers.{pow-split}
 use Rattle.units.specs.Tables.{«LUT_PITCH_RATIO_HIGH», «LUT_PITCH_RATIO_LOW»}
-use Rattle.units.proofs.Table.{every, at}
+use Rattle.units.proofs.Table.{at}
 use Rattle.units.proofs.Fractions.{revalued}
 use Rattle.units.proofs.Powers.{mul-pow, pow-mul, staged}
 

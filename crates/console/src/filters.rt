@@ -160,7 +160,7 @@ pub extern "C" fn bechullpi_filter_svf_process_buffer(
     mode: FilterMode,
 ) -> Svf
     ensures filter { λ r. ⌜ r ≡ svf.processBuffer filter (now (in_ .entry)) (now (out .entry)) (Enums.filterMode mode) .state ⌝ }
-    ensures block { λ _. ⌜ now (out .exit) ≡ svf.processBuffer filter (now (in_ .entry)) (now (out .entry)) (Enums.filterMode mode) .out ⌝ }
+    ensures out { λ _. ⌜ now (out .exit) ≡ svf.processBuffer filter (now (in_ .entry)) (now (out .entry)) (Enums.filterMode mode) .out ⌝ }
 {
     filter.process_buffer(in_, out, enums::filter_mode(mode))
 }

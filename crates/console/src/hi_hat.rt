@@ -96,7 +96,7 @@ pub extern "C" fn bechullpi_hihat_square_noise_render(
     out: &mut [f32],
 ) -> SquareNoise
     ensures noise { λ r. ⌜ r ≡ after (square.turn (square.increments f0)) (length (now (out .entry))) noise ⌝ }
-    ensures block { λ _. ⌜ now (out .exit) ≡ samples (square.turn (square.increments f0)) (length (now (out .entry))) noise ⌝ }
+    ensures out { λ _. ⌜ now (out .exit) ≡ samples (square.turn (square.increments f0)) (length (now (out .entry))) noise ⌝ }
 {
     noise.render(f0, out)
 }

@@ -18,7 +18,7 @@ pub struct SheetAnswered {
 #[no_mangle]
 pub extern "C" fn bechullpi_sheet(sheet: &[u8], out: &mut [f32]) -> SheetAnswered
     ensures answer { λ r. ⌜ r ≡ spec.sheet (answer (now (sheet .entry)) (now (out .entry))) ⌝ }
-    ensures block { λ _. ⌜ now (out .exit) ≡ render (now (sheet .entry)) (now (out .entry)) ⌝ }
+    ensures out { λ _. ⌜ now (out .exit) ≡ render (now (sheet .entry)) (now (out .entry)) ⌝ }
 {
     match cue_render::render(sheet, out) {
         Judgment::Accepted { head, cues } => SheetAnswered {

@@ -88,7 +88,7 @@ impl Kit {
     pub(crate) fn play(self, out: &mut [f32], scratch: &mut [f32]) -> Self
         requires { ⌜ length (now scratch) ≡ length (now out) ⌝ }
         ensures kit { λ r. ⌜ r ≡ spec.afterSegment self (length (now (out .entry))) ⌝ }
-        ensures block { λ _. ⌜ now (out .exit) ≡ spec.segment self (length (now (out .entry))) ⌝ }
+        ensures out { λ _. ⌜ now (out .exit) ≡ spec.segment self (length (now (out .entry))) ⌝ }
     {
         mix::clear(out);
         let bass = part::bass(out, scratch, self.bass, self.b);

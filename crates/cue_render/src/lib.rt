@@ -24,7 +24,7 @@ use cue_sheet::Walk;
 // a call that an accepted sheet makes of it.
 pub fn render(sheet: &[u8], out: &mut [f32]) -> Judgment
     ensures answer { λ r. ⌜ Sheet.answer r ≡ spec.answer (now (sheet .entry)) (now (out .entry)) ⌝ }
-    ensures block { λ _. ⌜ now (out .exit) ≡ spec.render (now (sheet .entry)) (now (out .entry)) ⌝ }
+    ensures out { λ _. ⌜ now (out .exit) ≡ spec.render (now (sheet .entry)) (now (out .entry)) ⌝ }
     ensures calls { λ _. ⌜ NoneRefused (now (sheet .entry)) ⌝ }
 {
     match cue_sheet::judge(sheet) {
@@ -72,7 +72,7 @@ fn render_lines(sheet: &[u8], head: Head, out: &mut [f32], scratch: &mut [f32])
 fn render_segment(kit: Kit, from: usize, to: usize, out: &mut [f32], scratch: &mut [f32]) -> Kit
     requires { ⌜ (from ≤ to) × (to ≤ List.length (now out)) × (to - from ≤ List.length (now scratch)) ⌝ }
     ensures kit { λ r. ⌜ r ≡ afterSegment kit (to - from) ⌝ }
-    ensures block { λ _. ⌜ now (out .exit) ≡ take from (now (out .entry)) ++ (segment kit (to - from) ++ drop to (now (out .entry))) ⌝ }
+    ensures out { λ _. ⌜ now (out .exit) ≡ take from (now (out .entry)) ++ (segment kit (to - from) ++ drop to (now (out .entry))) ⌝ }
 {
     kit.play(&mut out[from..to], &mut scratch[..to - from])
 }

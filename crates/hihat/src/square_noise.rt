@@ -26,7 +26,7 @@ impl SquareNoise {
     // Any f0 and any length: there is nothing to refuse.
     pub fn render(self, f0: f32, out: &mut [f32]) -> Self
         ensures noise { λ r. ⌜ r ≡ after (spec.turn (spec.increments f0)) (length (now (out .entry))) self ⌝ }
-        ensures block { λ _. ⌜ now (out .exit) ≡ samples (spec.turn (spec.increments f0)) (length (now (out .entry))) self ⌝ }
+        ensures out { λ _. ⌜ now (out .exit) ≡ samples (spec.turn (spec.increments f0)) (length (now (out .entry))) self ⌝ }
     {
         let increment = increments(f0);
         let mut noise = self;

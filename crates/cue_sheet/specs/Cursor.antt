@@ -5,7 +5,7 @@ use mathlib.Core.List.{List}
 use lib.Dec.{eqb}
 use lib.ListN.{length, take, drop}
 use Rattle.text.specs.Read.{fields, field}
-use Rattle.text.proofs.Fields.{fieldStart}
+use Rattle.text.specs.Cursor.{fieldStart}
 
 -- field k starts at `at`, and e is the place after it and its comma: its bytes, where the next one starts, and whether it is the last
 pub record AfterField (line : List ℕ) (k at e : ℕ) : Type 0 where

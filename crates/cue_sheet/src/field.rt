@@ -3,7 +3,7 @@ ghost use mathlib.Core.Path.{_≡_};
 ghost use mathlib.Core.Bool.{_&&_};
 ghost use Prim.Native.Nat.{_-_, _≤_, max};
 ghost use lib.ListN.{length, take, drop};
-ghost use Rattle.text.proofs.Fields.{fieldStart};
+ghost use Rattle.text.specs.Cursor.{fieldStart};
 ghost use Rattle.cue_sheet.specs.Answer as spec;
 ghost use Rattle.cue_sheet.specs.Cursor.{AfterField};
 use text::read::Number;

@@ -2,7 +2,7 @@
 ghost use mathlib.Core.Path.{_≡_};
 ghost use Prim.Native.Nat.{_≤_};
 ghost use Rattle.text.specs.Read.{field, pattern};
-ghost use Rattle.text.proofs.Fields.{fieldStart};
+ghost use Rattle.text.specs.Cursor.{fieldStart};
 ghost use Rattle.cue_sheet.specs.Answer.{number, ask, valid};
 ghost use Rattle.cue_sheet.specs.CueLine as spec;
 ghost use Rattle.cue_sheet.specs.Cursor.{AfterField};

@@ -12,7 +12,8 @@ use borrow.Author.Tests.{ne-eqb}
 use Rattle.text.specs.Read.{ended, body, fields, fieldEnd, decimal}
 use Rattle.text.specs.declared.read.Number.{Number}
 use Rattle.text.specs.declared.read.Number.the-variants.{Value, Invalid}
-use Rattle.text.proofs.Fields.{between, fieldStart, next-starts, field-here, field-last, field-not-last, end-inside}
+use Rattle.text.specs.Cursor.{fieldStart}
+use Rattle.text.proofs.Fields.{between, next-starts, field-here, field-last, field-not-last, end-inside}
 use Rattle.text.proofs.Numeral.{decimal-read, decimal-size}
 use Rattle.draw_request.specs.Requests.{both, readLine, readRequest}
 use Rattle.draw_request.specs.declared.Request.{Request}

@@ -12,16 +12,12 @@ use lib.ListN.{length, getD, take, drop, length-drop}
 use lib.Seq.{drop-drop, getD-drop, take-nil}
 use borrow.Author.Tests.{le-leb, lt-leb}
 use Rattle.text.specs.Read.{indexOf, attach, fields, field, fieldEnd}
+use Rattle.text.specs.Cursor.{fieldStart}
 use Rattle.text.proofs.Lines.{indexOf-le}
 
 -- the bytes from one place to another
 abbrev pub between : ℕ → ℕ → List ℕ → List ℕ
 between at e line = take (e - at) (drop at line)
-
--- the place at which field k of a line starts: past the line's end where there are fewer
-unfoldable pub fieldStart : ℕ → List ℕ → ℕ
-fieldStart zero line = 0
-fieldStart (suc k) line = suc (fieldEnd (fieldStart k line) line)
 
 -- the fields from a place on: none past the line's end
 unfoldable from : ℕ → List ℕ → List (List ℕ)

@@ -1,3 +1,4 @@
 -- The definitions of `text`.
 pub mod Read
+pub mod Cursor
 pub mod Write

@@ -2,7 +2,7 @@
 use borrow.Author.Needs.{needs}
 use native.Mathlib.Omega.{arith}
 use mathlib.Core.Path.{refl}
-use Rattle.text.proofs.Fields.{fieldStart}
+use Rattle.text.specs.Cursor.{fieldStart}
 use Rattle.cue_sheet.specs.Sheet.{readFirstLine}
 use Rattle.cue_sheet.proofs.read_first_line.Statement.{statement}
 use Rattle.cue_sheet.proofs.read_first_line.Tie as tie

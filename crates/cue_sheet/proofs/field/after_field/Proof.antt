@@ -10,7 +10,8 @@ use lib.ListN.{length, take, drop, length-drop}
 use borrow.Author.Tests.{eqb-true, eqb-false, eq-eqb, ne-eqb}
 use Rattle.text.specs.Read.{fields, fieldEnd}
 use Rattle.text.proofs.Lines.{indexOf-le}
-use Rattle.text.proofs.Fields.{fieldStart, next-starts, field-here, field-last, field-not-last}
+use Rattle.text.specs.Cursor.{fieldStart}
+use Rattle.text.proofs.Fields.{next-starts, field-here, field-last, field-not-last}
 use Rattle.cue_sheet.proofs.field.after_field.Statement.{statement}
 use Rattle.cue_sheet.proofs.field.after_field.Tie as tie
 

@@ -2,7 +2,7 @@
 use borrow.Author.Needs.{needs}
 use native.Mathlib.Omega.{arith}
 use mathlib.Core.Path.{refl}
-use Rattle.text.proofs.Fields.{fieldStart}
+use Rattle.text.specs.Cursor.{fieldStart}
 use Rattle.cue_sheet.specs.CueLine.{readFields}
 use Rattle.cue_sheet.proofs.line.read_fields.Statement.{statement}
 use Rattle.cue_sheet.proofs.line.read_fields.Tie as tie

@@ -6,7 +6,7 @@ use Prim.Native.Nat.{ℕ, suc, _-_, _≤_, _<_}
 use native.Mathlib.Omega.{arith}
 use lib.ListN.{getD}
 use lib.Ieee.{Float}
-use borrow.Author.Tests.{leb-true}
+use borrow.Author.Tests.{leb-true, le-leb}
 use Rattle.refusal.specs.declared.Refusal.{Refusal}
 use Rattle.refusal.specs.declared.Refusal.the-variants.{SampleRate, BlockLength, Frequency, Accent, Knob}
 use Rattle.refusal.specs.declared.Answer.{Answer}
@@ -60,3 +60,7 @@ passed false n next p h = absurd (omega arith)
 pub short-block : (rate : Float) (size next : ℕ) → ask (isSampleRate rate) 1 (ask (isBlockLength size) 2 next) ≡ 0 → size ≤ 16384
 short-block rate size next h =
     leb-true _ _ (passed (isBlockLength size) 2 _ (omega arith) (passed (isSampleRate rate) 1 _ (omega arith) h .1) .0)
+
+-- a shorter block passes where a longer one does
+pub shorter : (m n next : ℕ) → m ≤ n → ask (isBlockLength n) 2 next ≡ 0 → ask (isBlockLength m) 2 next ≡ 0
+shorter m n next h e = let p = passed (isBlockLength n) 2 next (omega arith) e in rw (le-leb m 16384 (omega (arith, leb-true n 16384 (p .0)))) (p .1)

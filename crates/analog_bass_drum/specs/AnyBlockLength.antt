@@ -1,0 +1,12 @@
+-- Any audio block length: an accepted block is a block of its first samples and then untriggered blocks of the others, with the same knobs, for every voice,
+-- reached or not. Definitions only.
+use mathlib.Core.Bool.{Bool, false}
+use lib.Ieee.{Float}
+use Rattle.refusal.specs.Refusal.{InParts}
+use Rattle.analog_bass_drum.specs.AnalogBassDrum.{render}
+use Rattle.analog_bass_drum.specs.declared.AnalogBassDrum.{AnalogBassDrum}
+use Rattle.analog_bass_drum.specs.declared.Knobs.{Knobs}
+
+abbrev pub AnyBlockLength : Type 0
+AnyBlockLength =
+    (v : AnalogBassDrum) (trigger : Bool) (accent : Float) (k : Knobs) → InParts (render v trigger accent k) (λ left. render left false accent k)

@@ -1,0 +1,55 @@
+-- The settings do not depend on the length, and a voice that is tuned stays so: what is left is `block`'s law of a + b turns.
+use Prim.Native.Nat.{ℕ, _+_}
+use native.Mathlib.Omega.{arith}
+use mathlib.Core.Path.{_≡_, refl, ap}
+use mathlib.Core.Bool.{Bool, false, cond}
+use lib.ListN.{length, length-append}
+use lib.Ieee.{Float}
+use Rattle.block.specs.Block.{after}
+use Rattle.block.proofs.Blocks.{samples-add, after-add, after-holds}
+use Rattle.refusal.specs.Refusal.{Noisy, noisy, InTwo}
+use Rattle.refusal.proofs.ByNumber.{shorter}
+use Rattle.refusal.proofs.InParts.{in-parts}
+use Rattle.filter.specs.Svf as Filter
+use Rattle.filter.specs.declared.Svf.{Svf}
+use Rattle.filter.proofs.Tuned.{svf-stays}
+use Rattle.analog_snare_drum.specs.AnalogSnareDrum.{filterOf, settings, triggered, tunedMode, tuned, modeOutput, shellOutput, step, renderRefusal, render}
+use Rattle.analog_snare_drum.specs.AnyBlockLength.{AnyBlockLength}
+use Rattle.analog_snare_drum.specs.declared.AnalogSnareDrum.{AnalogSnareDrum}
+use Rattle.analog_snare_drum.specs.declared.Knobs.{Knobs}
+use Rattle.analog_snare_drum.specs.declared.Settings.{Settings}
+
+-- to tune it again changes nothing
+abbrev Tuned : Settings → Noisy AnalogSnareDrum → Type 0
+Tuned b s = tuned b (s .voice) ≡ s .voice
+
+tunes : (b : Settings) (v : AnalogSnareDrum) (noise : ℕ) → Tuned b (noisy (tuned b v) noise)
+unfolding tuned tunedMode Filter.setGQ Filter.setGR
+tunes b v noise = refl
+
+stays : (b : Settings) (s : Noisy AnalogSnareDrum) → Tuned b s → Tuned b (step b s .next)
+unfolding tuned tunedMode step shellOutput modeOutput
+stays b s e =
+    let mode : (i : ℕ) → filterOf (tuned b (s .voice) .resonator) i ≡ filterOf (s .voice .resonator) i = λ i. ap (λ (v : AnalogSnareDrum). filterOf (v .resonator) i) e in
+    rw (
+      svf-stays _ _ _ _ (mode 0),
+      svf-stays _ _ _ _ (mode 1),
+      svf-stays _ _ _ _ (mode 2),
+      svf-stays _ _ _ _ (mode 3),
+      svf-stays _ _ _ _ (mode 4),
+      svf-stays _ _ _ _ (ap (λ (v : AnalogSnareDrum). v .«noise_filter») e),
+    )
+
+in-two : (s : Noisy AnalogSnareDrum) (trigger : Bool) (accent : Float) (k : Knobs) → InTwo (render s trigger accent k) (λ left. render left false accent k)
+unfolding renderRefusal
+in-two s trigger accent k a b h =
+    let whole = rw length-append at h in
+    let first = shorter (length a) (length a + length b) _ (omega arith) whole in
+    let second = shorter (length b) (length a + length b) _ (omega arith) whole in
+    let q = settings k in
+    let start = noisy (tuned q (cond trigger (triggered (s .voice) accent) (s .voice))) (s .noise) in
+    let still = after-holds (step q) (Tuned q) (stays q) (length a) start (tunes q _ (s .noise)) in
+    rw (length-append, whole, first, second, still, after-add, samples-add)
+
+pub any-block-length : AnyBlockLength
+any-block-length s trigger accent k = in-parts (λ left. render left false accent k) (λ left. in-two left false accent k) _ (in-two s trigger accent k)

@@ -1,0 +1,12 @@
+-- Any audio block length: an accepted block is a block of its first samples and then untriggered blocks of the others, with the same knobs, for every voice and
+-- noise state, reached or not. Definitions only.
+use mathlib.Core.Bool.{Bool, false}
+use lib.Ieee.{Float}
+use Rattle.refusal.specs.Refusal.{Noisy, noisy, InParts}
+use Rattle.analog_snare_drum.specs.AnalogSnareDrum.{render}
+use Rattle.analog_snare_drum.specs.declared.AnalogSnareDrum.{AnalogSnareDrum}
+use Rattle.analog_snare_drum.specs.declared.Knobs.{Knobs}
+
+abbrev pub AnyBlockLength : Type 0
+AnyBlockLength =
+    (s : Noisy AnalogSnareDrum) (trigger : Bool) (accent : Float) (k : Knobs) → InParts (render s trigger accent k) (λ left. render left false accent k)

@@ -56,11 +56,19 @@ pub passed : (q : Bool) (n next : ℕ) → 0 < n → ask q n next ≡ 0 → (q �
 passed true n next p h = (refl, h)
 passed false n next p h = absurd (omega arith)
 
--- the block of an accepted call of a voice that stores its rate
-pub short-block : (rate : Float) (size next : ℕ) → ask (isSampleRate rate) 1 (ask (isBlockLength size) 2 next) ≡ 0 → size ≤ 16384
-short-block rate size next h =
-    leb-true _ _ (passed (isBlockLength size) 2 _ (omega arith) (passed (isSampleRate rate) 1 _ (omega arith) h .1) .0)
-
 -- a shorter block passes where a longer one does
 pub shorter : (m n next : ℕ) → m ≤ n → ask (isBlockLength n) 2 next ≡ 0 → ask (isBlockLength m) 2 next ≡ 0
-shorter m n next h e = let p = passed (isBlockLength n) 2 next (omega arith) e in rw (le-leb m 16384 (omega (arith, leb-true n 16384 (p .0)))) (p .1)
+shorter m n next h e =
+    let p = passed (isBlockLength n) 2 next (omega arith) e in
+    rw (le-leb m 16384 (omega (arith, leb-true n 16384 (p .0)))) (p .1)
+
+-- the block of an accepted call of a voice that stores its rate, and a shorter one
+module _ (rate : Float) (size next : ℕ) (h : ask (isSampleRate rate) 1 (ask (isBlockLength size) 2 next) ≡ 0) where
+  at-rate : (isSampleRate rate ≡ true) × (ask (isBlockLength size) 2 next ≡ 0)
+  at-rate = passed (isSampleRate rate) 1 (ask (isBlockLength size) 2 next) (omega arith) h
+
+  pub short-block : size ≤ 16384
+  short-block = leb-true _ _ (passed (isBlockLength size) 2 _ (omega arith) (at-rate .1) .0)
+
+  pub shorter-at-rate : (m : ℕ) → m ≤ size → ask (isSampleRate rate) 1 (ask (isBlockLength m) 2 next) ≡ 0
+  shorter-at-rate m le = rw (at-rate .0) (shorter m size next le (at-rate .1))

@@ -1,0 +1,114 @@
+-- Unsustained, the settings depend on the length in the interpolator's increment alone, which no turn reads; and a voice that is tuned stays so. What is left is
+-- `block`'s law of a + b turns.
+use Prim.Native.Nat.{ℕ, _+_}
+use native.Mathlib.Omega.{arith}
+use mathlib.Core.Path.{_≡_, refl, ap, _∙_, fun-ext}
+use mathlib.Core.Bool.{Bool, true, false, cond}
+use lib.ListN.{length, length-append}
+use lib.Ieee.{Float}
+use Rattle.ieee754.specs.Single.{decimal}
+use Rattle.block.specs.Block.{Turn, after}
+use Rattle.block.proofs.Blocks.{samples-add, after-add, after-holds}
+use Rattle.refusal.specs.Refusal.{Noisy, noisy, InTwo}
+use Rattle.refusal.proofs.ByNumber.{shorter-at-rate}
+use Rattle.refusal.proofs.InParts.{in-parts}
+use Rattle.filter.specs.OnePole as OnePole
+use Rattle.filter.specs.Svf as Svf
+use Rattle.filter.proofs.Tuned.{svf-stays, one-pole-stays}
+use Rattle.synthetic_snare_drum.specs.SyntheticSnareDrum.{settings, tuned, triggered, step, renderRefusal, render}
+use Rattle.synthetic_snare_drum.specs.AnyBlockLength.{AnyBlockLength}
+use Rattle.synthetic_snare_drum.specs.declared.SyntheticSnareDrum.{SyntheticSnareDrum}
+use Rattle.synthetic_snare_drum.specs.declared.Knobs.{Knobs}
+use Rattle.synthetic_snare_drum.specs.declared.Settings.{Settings}
+use Rattle.synthetic_snare_drum.proofs.AlwaysDecays.{always-decays}
+
+-- ---- the length of the block
+
+-- the settings with an interpolator that stands still
+abbrev still : Settings → Settings
+still b =
+    record {
+      sustain = b .sustain;
+      f0 = b .f0;
+      «fm_amount» = b .«fm_amount»;
+      «drum_decay» = b .«drum_decay»;
+      «snare_decay» = b .«snare_decay»;
+      «fm_decay» = b .«fm_decay»;
+      snappy = b .snappy;
+      «drum_level» = b .«drum_level»;
+      «snare_level» = b .«snare_level»;
+      increment = decimal 0 0;
+    }
+
+step-still : (b : Settings) (size : ℕ) → b .sustain ≡ false → step b size ≡ step (still b) 0
+unfolding step
+step-still b size h = fun-ext (λ s. rw (h, always-decays, always-decays))
+
+-- all else that they depend on is the rate
+same-still : (v w : SyntheticSnareDrum) (k : Knobs) (m n : ℕ) → v .«sample_rate_hz» ≡ w .«sample_rate_hz» → still (settings v k m) ≡ still (settings w k n)
+unfolding settings
+same-still v w k m n e = rw e
+
+module _ (v w : SyntheticSnareDrum) (k : Knobs) (n : ℕ) (unsustained : k .sustain ≡ false) (e : v .«sample_rate_hz» ≡ w .«sample_rate_hz») where
+  same-step : step (settings v k n) n ≡ step (still (settings w k 0)) 0
+  unfolding settings
+  same-step = step-still (settings v k n) n unsustained ∙ ap (λ (b : Settings). step b 0) (same-still v w k n 0 e)
+
+  same-tuned : tuned v (settings v k n) ≡ tuned v (still (settings w k 0))
+  unfolding tuned
+  same-tuned = ap (tuned v) (same-still v w k n 0 e)
+
+-- ---- a voice that is tuned by these settings, and has this rate
+record Tuned (b : Settings) (hz : Float) (s : Noisy SyntheticSnareDrum) : Type 0 where
+  again : tuned (s .voice) b ≡ s .voice
+  rate : s .voice .«sample_rate_hz» ≡ hz
+
+stays : (b : Settings) (rate : Float) (s : Noisy SyntheticSnareDrum) → Tuned b rate s → Tuned b rate (step b 0 s .next)
+unfolding tuned step
+stays b rate s t = record {
+  again =
+      rw (
+        one-pole-stays _ _ _ (ap (λ (v : SyntheticSnareDrum). v .«drum_lp») (t .again)),
+        one-pole-stays _ _ _ (ap (λ (v : SyntheticSnareDrum). v .«snare_hp») (t .again)),
+        svf-stays _ _ _ _ (ap (λ (v : SyntheticSnareDrum). v .«snare_lp») (t .again)),
+      );
+  rate = t .rate;
+}
+
+begins : (b : Settings) (s : Noisy SyntheticSnareDrum) (trigger : Bool) (k : Knobs)
+    → let v = tuned (s .voice) b in
+    Tuned b (s .voice .«sample_rate_hz») (noisy (cond trigger (triggered v (k .accent) (k .decay)) v) (s .noise))
+unfolding tuned triggered OnePole.setF Svf.setGQ Svf.setGR
+begins b s true k = record { again = refl; rate = refl }
+begins b s false k = record { again = refl; rate = refl }
+
+in-two : (s : Noisy SyntheticSnareDrum) (trigger : Bool) (k : Knobs) → k .sustain ≡ false → InTwo (render s trigger k) (λ left. render left false k)
+unfolding renderRefusal
+in-two s trigger k unsustained a b h =
+    let v = s .voice in
+    let whole = rw length-append at h in
+    let first = shorter-at-rate (v .«sample_rate_hz») (length a + length b) _ whole (length a) (omega arith) in
+    let second = shorter-at-rate (v .«sample_rate_hz») (length a + length b) _ whole (length b) (omega arith) in
+    let q = still (settings v k 0) in
+    let t = after-holds (step q 0) (Tuned q (v .«sample_rate_hz»)) (stays q _) (length a) _ (begins q s trigger k) in
+    let left = after (step q 0) (length a) (noisy (cond trigger (triggered (tuned v q) (k .accent) (k .decay)) (tuned v q)) (s .noise)) .voice in
+    rw (
+      length-append,
+      whole,
+      first,
+      same-step v v k (length a + length b) unsustained refl,
+      same-tuned v v k (length a + length b) unsustained refl,
+      same-step v v k (length a) unsustained refl,
+      same-tuned v v k (length a) unsustained refl,
+      t .rate,
+      second,
+      same-step left v k (length b) unsustained (t .rate),
+      same-tuned left v k (length b) unsustained (t .rate),
+      t .again,
+      after-add,
+      samples-add,
+    )
+
+pub any-block-length : AnyBlockLength
+any-block-length s trigger k unsustained =
+    in-parts (λ left. render left false k) (λ left. in-two left false k unsustained) _ (in-two s trigger k unsustained)

@@ -1,0 +1,12 @@
+-- Any audio block length: an accepted, unsustained block is a block of its first samples and then untriggered blocks of the others, with the same knobs, for every
+-- voice and noise state, reached or not. A sustained block is none, since its gain slides over its own length. Definitions only.
+use mathlib.Core.Path.{_≡_}
+use mathlib.Core.Bool.{Bool, false}
+use Rattle.refusal.specs.Refusal.{Noisy, InParts}
+use Rattle.synthetic_snare_drum.specs.SyntheticSnareDrum.{render}
+use Rattle.synthetic_snare_drum.specs.declared.SyntheticSnareDrum.{SyntheticSnareDrum}
+use Rattle.synthetic_snare_drum.specs.declared.Knobs.{Knobs}
+
+abbrev pub AnyBlockLength : Type 0
+AnyBlockLength =
+    (s : Noisy SyntheticSnareDrum) (trigger : Bool) (k : Knobs) → k .sustain ≡ false → InParts (render s trigger k) (λ left. render left false k)

@@ -1,4 +1,5 @@
 -- The definitions of `hihat`.
 pub mod SquareNoise
 pub mod Hihat
+pub mod AnyBlockLength
 pub mod OnePass

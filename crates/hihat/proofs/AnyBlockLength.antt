@@ -1,0 +1,116 @@
+-- Unsustained, the settings depend on the length in the interpolator's increment alone, which no pass reads; and a voice that is tuned stays so. What is left is
+-- `block`'s law of a stage over two buffers.
+use Prim.Native.Nat.{ℕ, _≤_}
+use native.Mathlib.Omega.{arith}
+use mathlib.Core.Path.{_≡_, refl, ap, _∙_, fun-ext}
+use mathlib.Core.Bool.{Bool, true, false, cond}
+use mathlib.Core.List.{List, _++_}
+use lib.ListN.{length, length-append}
+use lib.Ieee.{Float}
+use Rattle.ieee754.specs.Single.{decimal}
+use Rattle.block.specs.Block.{Turn, Passed, scanned, pass, setting}
+use Rattle.block.proofs.Blocks.{any-lengths, scan-append, scanned-append, scanned-holds}
+use Rattle.refusal.specs.Refusal.{Noisy, noisy, InTwo}
+use Rattle.refusal.proofs.ByNumber.{shorter-at-rate}
+use Rattle.refusal.proofs.InParts.{in-parts}
+use Rattle.filter.specs.Svf as Svf
+use Rattle.filter.proofs.Tuned.{svf-stays}
+use Rattle.hihat.specs.Hihat.{settings, triggered, metallic, setColoration, colored, clocked, decay, amplified, setHpf, highPassed, voiced, passes, renderRefusal, render}
+use Rattle.hihat.specs.OnePass.{tuned, step}
+use Rattle.hihat.specs.AnyBlockLength.{AnyBlockLength, AnyNoiseLength}
+use Rattle.hihat.specs.declared.Hihat.{Hihat}
+use Rattle.hihat.specs.declared.Knobs.{Knobs}
+use Rattle.hihat.specs.declared.Settings.{Settings}
+use Rattle.hihat.specs.declared.VcaType.{VcaType}
+use Rattle.hihat.proofs.OnePass.{five-passes}
+
+-- ---- the length of the block
+
+-- the settings with an interpolator that stands still
+abbrev still : Settings → Settings
+still b =
+    record {
+      «envelope_decay» = b .«envelope_decay»;
+      «cut_decay» = b .«cut_decay»;
+      increment = b .increment;
+      cutoff = b .cutoff;
+      q = b .q;
+      noisiness = b .noisiness;
+      «noise_f» = b .«noise_f»;
+      «gain_increment» = decimal 0 0;
+      sustain = b .sustain;
+      «vca_type» = b .«vca_type»;
+      «two_stage_envelope» = b .«two_stage_envelope»;
+    }
+
+step-still : (b : Settings) → b .sustain ≡ false → step b ≡ step (still b)
+unfolding step metallic clocked amplified decay
+step-still b h = fun-ext (λ s. fun-ext (λ x. rw h))
+
+-- all else that they depend on is the rate
+same-still : (v w : Hihat) (kind : VcaType) (k : Knobs) (m n : ℕ) → v .«sample_rate» ≡ w .«sample_rate» → still (settings v kind k m) ≡ still (settings w kind k n)
+unfolding settings
+same-still v w kind k m n e = rw e
+
+-- the block in one pass, whatever its length
+module _ (v w : Hihat) (kind : VcaType) (k : Knobs) (n : ℕ) (unsustained : k .sustain ≡ false) (e : v .«sample_rate» ≡ w .«sample_rate») where
+  same-pass : (p : Passed (Noisy Hihat))
+      → let b = still (settings w kind k 0) in
+      passes (settings v kind k n) p ≡ pass (step b) (setting (voiced (tuned b)) p)
+  unfolding settings setColoration setHpf
+  same-pass p =
+      five-passes (settings v kind k n) p
+      ∙ ap (λ (f : Noisy Hihat → Float → Turn (Noisy Hihat)). pass f (setting (voiced (tuned (settings v kind k n))) p)) (step-still (settings v kind k n) unsustained)
+      ∙ ap (λ (b : Settings). pass (step b) (setting (voiced (tuned b)) p)) (same-still v w kind k n 0 e)
+
+-- ---- a voice that is tuned by these settings, and has this rate
+record Tuned (b : Settings) (hz : Float) (s : Noisy Hihat) : Type 0 where
+  again : tuned b (s .voice) ≡ s .voice
+  rate : s .voice .«sample_rate» ≡ hz
+
+begins : (b : Settings) (s : Noisy Hihat) (trigger : Bool) (k : Knobs)
+    → Tuned b (s .voice .«sample_rate») (noisy (tuned b (cond trigger (triggered (s .voice) k) (s .voice))) (s .noise))
+unfolding triggered setColoration setHpf Svf.setGQ Svf.setGR
+begins b s true k = record { again = refl; rate = refl }
+begins b s false k = record { again = refl; rate = refl }
+
+stays : (b : Settings) (hz : Float) (s : Noisy Hihat) (x : Float) → Tuned b hz s → Tuned b hz (step b s x .next)
+unfolding step metallic setColoration colored clocked amplified setHpf highPassed
+stays b hz s x t = record {
+  again =
+      rw (
+        svf-stays _ _ _ _ (ap (λ (v : Hihat). v .«noise_coloration_svf») (t .again)),
+        svf-stays _ _ _ _ (ap (λ (v : Hihat). v .hpf) (t .again)),
+      );
+  rate = t .rate;
+}
+
+in-two : (s : Noisy Hihat) (trigger : Bool) (kind : VcaType) (k : Knobs) → k .sustain ≡ false
+    → InTwo (render s trigger kind k) (λ left. render left false kind k)
+unfolding renderRefusal
+in-two s trigger kind k unsustained a b h =
+    let v = s .voice in
+    let first = shorter-at-rate (v .«sample_rate») (length (a ++ b)) _ h (length a) (omega (arith, length-append a b)) in
+    let second = shorter-at-rate (v .«sample_rate») (length (a ++ b)) _ h (length b) (omega (arith, length-append a b)) in
+    let q = still (settings v kind k 0) in
+    let t = scanned-holds (step q) (Tuned q (v .«sample_rate»)) (stays q _) _ a (begins q s trigger k) in
+    let left = scanned (step q) (noisy (tuned q (cond trigger (triggered v k) v)) (s .noise)) a .voice in
+    rw (
+      h,
+      first,
+      same-pass v v kind k (length (a ++ b)) unsustained refl,
+      same-pass v v kind k (length a) unsustained refl,
+      t .rate,
+      second,
+      same-pass left v kind k (length b) unsustained (t .rate),
+      t .again,
+      scan-append,
+      scanned-append,
+    )
+
+pub any-block-length : AnyBlockLength
+any-block-length s trigger kind k unsustained =
+    in-parts (λ left. render left false kind k) (λ left. in-two left false kind k unsustained) _ (in-two s trigger kind k unsustained)
+
+pub any-noise-length : AnyNoiseLength
+any-noise-length f0 = any-lengths _

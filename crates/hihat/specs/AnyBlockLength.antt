@@ -1,0 +1,21 @@
+-- Any audio block length: an accepted, unsustained block is a block of its first samples and then untriggered blocks of the others, with the same knobs, for every
+-- voice and noise state, reached or not. A sustained block is none, since its gain slides over its own length. Definitions only.
+use mathlib.Core.Path.{_≡_}
+use mathlib.Core.Bool.{Bool, false}
+use lib.Ieee.{Float}
+use Rattle.block.specs.Block.{AnyLengths}
+use Rattle.refusal.specs.Refusal.{Noisy, InParts}
+use Rattle.hihat.specs.SquareNoise as SquareNoise
+use Rattle.hihat.specs.Hihat.{render}
+use Rattle.hihat.specs.declared.Hihat.{Hihat}
+use Rattle.hihat.specs.declared.Knobs.{Knobs}
+use Rattle.hihat.specs.declared.VcaType.{VcaType}
+
+abbrev pub AnyBlockLength : Type 0
+AnyBlockLength =
+    (s : Noisy Hihat) (trigger : Bool) («vca_type» : VcaType) (k : Knobs) → k .sustain ≡ false
+    → InParts (render s trigger «vca_type» k) (λ left. render left false «vca_type» k)
+
+-- the square noise by itself, which refuses nothing: at every f0, a NaN too
+abbrev pub AnyNoiseLength : Type 0
+AnyNoiseLength = (f0 : Float) → AnyLengths (SquareNoise.turn (SquareNoise.increments f0))

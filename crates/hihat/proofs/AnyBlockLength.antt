@@ -24,44 +24,18 @@ use Rattle.hihat.specs.declared.Settings.{Settings}
 use Rattle.hihat.specs.declared.VcaType.{VcaType}
 use Rattle.hihat.proofs.OnePass.{five-passes}
 
--- ---- the length of the block
+-- ---- the passes of an unsustained block, whatever its length, of two voices of one rate
+module _ (v w : Hihat) (kind : VcaType) (k : Knobs) (m n : ℕ) (unsustained : k .sustain ≡ false) (e : v .«sample_rate» ≡ w .«sample_rate») where
+  same-step : step (settings v kind k m) ≡ step (settings w kind k n)
+  unfolding settings step metallic clocked amplified decay
+  same-step = fun-ext (λ s. fun-ext (λ x. rw (unsustained, e)))
 
--- the settings with an interpolator that stands still
-abbrev still : Settings → Settings
-still b =
-    record {
-      «envelope_decay» = b .«envelope_decay»;
-      «cut_decay» = b .«cut_decay»;
-      increment = b .increment;
-      cutoff = b .cutoff;
-      q = b .q;
-      noisiness = b .noisiness;
-      «noise_f» = b .«noise_f»;
-      «gain_increment» = decimal 0 0;
-      sustain = b .sustain;
-      «vca_type» = b .«vca_type»;
-      «two_stage_envelope» = b .«two_stage_envelope»;
-    }
-
-step-still : (b : Settings) → b .sustain ≡ false → step b ≡ step (still b)
-unfolding step metallic clocked amplified decay
-step-still b h = fun-ext (λ s. fun-ext (λ x. rw h))
-
--- all else that they depend on is the rate
-same-still : (v w : Hihat) (kind : VcaType) (k : Knobs) (m n : ℕ) → v .«sample_rate» ≡ w .«sample_rate» → still (settings v kind k m) ≡ still (settings w kind k n)
-unfolding settings
-same-still v w kind k m n e = rw e
-
--- the block in one pass, whatever its length
-module _ (v w : Hihat) (kind : VcaType) (k : Knobs) (n : ℕ) (unsustained : k .sustain ≡ false) (e : v .«sample_rate» ≡ w .«sample_rate») where
-  same-pass : (p : Passed (Noisy Hihat))
-      → let b = still (settings w kind k 0) in
-      passes (settings v kind k n) p ≡ pass (step b) (setting (voiced (tuned b)) p)
+  same-tuned : (u : Hihat) → tuned (settings v kind k m) u ≡ tuned (settings w kind k n) u
   unfolding settings setColoration setHpf
-  same-pass p =
-      five-passes (settings v kind k n) p
-      ∙ ap (λ (f : Noisy Hihat → Float → Turn (Noisy Hihat)). pass f (setting (voiced (tuned (settings v kind k n))) p)) (step-still (settings v kind k n) unsustained)
-      ∙ ap (λ (b : Settings). pass (step b) (setting (voiced (tuned b)) p)) (same-still v w kind k n 0 e)
+  same-tuned u = rw e
+
+  same-pass : (p : Passed (Noisy Hihat)) → passes (settings v kind k m) p ≡ pass (step (settings w kind k n)) (setting (voiced (tuned (settings w kind k n))) p)
+  same-pass p = rw (five-passes, same-step, same-tuned (p .state .voice))
 
 -- ---- a voice that is tuned by these settings, and has this rate
 record Tuned (b : Settings) (hz : Float) (s : Noisy Hihat) : Type 0 where
@@ -90,19 +64,20 @@ in-two : (s : Noisy Hihat) (trigger : Bool) (kind : VcaType) (k : Knobs) → k .
 unfolding renderRefusal
 in-two s trigger kind k unsustained a b h =
     let v = s .voice in
-    let first = shorter-at-rate (v .«sample_rate») (length (a ++ b)) _ h (length a) (omega (arith, length-append a b)) in
-    let second = shorter-at-rate (v .«sample_rate») (length (a ++ b)) _ h (length b) (omega (arith, length-append a b)) in
-    let q = still (settings v kind k 0) in
+    let n = length (a ++ b) in
+    let first = shorter-at-rate (v .«sample_rate») n _ h (length a) (omega (arith, length-append a b)) in
+    let second = shorter-at-rate (v .«sample_rate») n _ h (length b) (omega (arith, length-append a b)) in
+    let q = settings v kind k n in
     let t = scanned-holds (step q) (Tuned q (v .«sample_rate»)) (stays q _) _ a (begins q s trigger k) in
     let left = scanned (step q) (noisy (tuned q (cond trigger (triggered v k) v)) (s .noise)) a .voice in
     rw (
       h,
       first,
-      same-pass v v kind k (length (a ++ b)) unsustained refl,
-      same-pass v v kind k (length a) unsustained refl,
+      same-pass v v kind k n n unsustained refl,
+      same-pass v v kind k (length a) n unsustained refl,
       t .rate,
       second,
-      same-pass left v kind k (length b) unsustained (t .rate),
+      same-pass left v kind k (length b) n unsustained (t .rate),
       t .again,
       scan-append,
       scanned-append,

@@ -22,50 +22,24 @@ use Rattle.synthetic_snare_drum.specs.declared.Knobs.{Knobs}
 use Rattle.synthetic_snare_drum.specs.declared.Settings.{Settings}
 use Rattle.synthetic_snare_drum.proofs.AlwaysDecays.{always-decays}
 
--- ---- the length of the block
+-- ---- the settings of an unsustained block, whatever its length, of two voices of one rate
+module _ (v w : SyntheticSnareDrum) (k : Knobs) (m n : ℕ) where
+  same-step : k .sustain ≡ false → v .«sample_rate_hz» ≡ w .«sample_rate_hz» → step (settings v k m) m ≡ step (settings w k n) n
+  unfolding settings step
+  same-step unsustained e = fun-ext (λ s. rw (unsustained, e, always-decays, always-decays))
 
--- the settings with an interpolator that stands still
-abbrev still : Settings → Settings
-still b =
-    record {
-      sustain = b .sustain;
-      f0 = b .f0;
-      «fm_amount» = b .«fm_amount»;
-      «drum_decay» = b .«drum_decay»;
-      «snare_decay» = b .«snare_decay»;
-      «fm_decay» = b .«fm_decay»;
-      snappy = b .snappy;
-      «drum_level» = b .«drum_level»;
-      «snare_level» = b .«snare_level»;
-      increment = decimal 0 0;
-    }
-
-step-still : (b : Settings) (size : ℕ) → b .sustain ≡ false → step b size ≡ step (still b) 0
-unfolding step
-step-still b size h = fun-ext (λ s. rw (h, always-decays, always-decays))
-
--- all else that they depend on is the rate
-same-still : (v w : SyntheticSnareDrum) (k : Knobs) (m n : ℕ) → v .«sample_rate_hz» ≡ w .«sample_rate_hz» → still (settings v k m) ≡ still (settings w k n)
-unfolding settings
-same-still v w k m n e = rw e
-
-module _ (v w : SyntheticSnareDrum) (k : Knobs) (n : ℕ) (unsustained : k .sustain ≡ false) (e : v .«sample_rate_hz» ≡ w .«sample_rate_hz») where
-  same-step : step (settings v k n) n ≡ step (still (settings w k 0)) 0
-  unfolding settings
-  same-step = step-still (settings v k n) n unsustained ∙ ap (λ (b : Settings). step b 0) (same-still v w k n 0 e)
-
-  same-tuned : tuned v (settings v k n) ≡ tuned v (still (settings w k 0))
-  unfolding tuned
-  same-tuned = ap (tuned v) (same-still v w k n 0 e)
+  same-tuned : (u : SyntheticSnareDrum) → tuned u (settings v k m) ≡ tuned u (settings w k n)
+  unfolding settings tuned
+  same-tuned u = refl
 
 -- ---- a voice that is tuned by these settings, and has this rate
 record Tuned (b : Settings) (hz : Float) (s : Noisy SyntheticSnareDrum) : Type 0 where
   again : tuned (s .voice) b ≡ s .voice
   rate : s .voice .«sample_rate_hz» ≡ hz
 
-stays : (b : Settings) (rate : Float) (s : Noisy SyntheticSnareDrum) → Tuned b rate s → Tuned b rate (step b 0 s .next)
+stays : (b : Settings) (size : ℕ) (hz : Float) (s : Noisy SyntheticSnareDrum) → Tuned b hz s → Tuned b hz (step b size s .next)
 unfolding tuned step
-stays b rate s t = record {
+stays b size hz s t = record {
   again =
       rw (
         one-pole-stays _ _ _ (ap (λ (v : SyntheticSnareDrum). v .«drum_lp») (t .again)),
@@ -86,24 +60,23 @@ in-two : (s : Noisy SyntheticSnareDrum) (trigger : Bool) (k : Knobs) → k .sust
 unfolding renderRefusal
 in-two s trigger k unsustained a b h =
     let v = s .voice in
+    let n = length a + length b in
     let whole = rw length-append at h in
-    let first = shorter-at-rate (v .«sample_rate_hz») (length a + length b) _ whole (length a) (omega arith) in
-    let second = shorter-at-rate (v .«sample_rate_hz») (length a + length b) _ whole (length b) (omega arith) in
-    let q = still (settings v k 0) in
-    let t = after-holds (step q 0) (Tuned q (v .«sample_rate_hz»)) (stays q _) (length a) _ (begins q s trigger k) in
-    let left = after (step q 0) (length a) (noisy (cond trigger (triggered (tuned v q) (k .accent) (k .decay)) (tuned v q)) (s .noise)) .voice in
+    let first = shorter-at-rate (v .«sample_rate_hz») n _ whole (length a) (omega arith) in
+    let second = shorter-at-rate (v .«sample_rate_hz») n _ whole (length b) (omega arith) in
+    let q = settings v k n in
+    let t = after-holds (step q n) (Tuned q (v .«sample_rate_hz»)) (stays q n _) (length a) _ (begins q s trigger k) in
+    let left = after (step q n) (length a) (noisy (cond trigger (triggered (tuned v q) (k .accent) (k .decay)) (tuned v q)) (s .noise)) .voice in
     rw (
       length-append,
       whole,
       first,
-      same-step v v k (length a + length b) unsustained refl,
-      same-tuned v v k (length a + length b) unsustained refl,
-      same-step v v k (length a) unsustained refl,
-      same-tuned v v k (length a) unsustained refl,
+      same-step v v k (length a) n unsustained refl,
+      same-tuned v v k (length a) n v,
       t .rate,
       second,
-      same-step left v k (length b) unsustained (t .rate),
-      same-tuned left v k (length b) unsustained (t .rate),
+      same-step left v k (length b) n unsustained (t .rate),
+      same-tuned left v k (length b) n left,
       t .again,
       after-add,
       samples-add,

@@ -2,11 +2,18 @@
 -- reached or not. Definitions only.
 use mathlib.Core.Bool.{Bool, false}
 use lib.Ieee.{Float}
-use Rattle.refusal.specs.Refusal.{InParts}
+use Rattle.refusal.specs.Refusal.{InTwo, InMany}
 use Rattle.analog_bass_drum.specs.AnalogBassDrum.{render}
 use Rattle.analog_bass_drum.specs.declared.AnalogBassDrum.{AnalogBassDrum}
 use Rattle.analog_bass_drum.specs.declared.Knobs.{Knobs}
 
 abbrev pub AnyBlockLength : Type 0
 AnyBlockLength =
-    (v : AnalogBassDrum) (trigger : Bool) (accent : Float) (k : Knobs) → InParts (render v trigger accent k) (λ left. render left false accent k)
+    (v : AnalogBassDrum) (trigger : Bool) (accent : Float) (k : Knobs)
+    → InTwo (render v trigger accent k) (λ left. render left false accent k)
+
+-- and so in blocks of any lengths, one after the other
+abbrev pub AnyBlockLengths : Type 0
+AnyBlockLengths =
+    (v : AnalogBassDrum) (trigger : Bool) (accent : Float) (k : Knobs)
+    → InMany (render v trigger accent k) (λ left. render left false accent k)

@@ -2,21 +2,17 @@
 use Prim.Native.Nat.{ℕ, _+_}
 use native.Mathlib.Omega.{arith}
 use mathlib.Core.Path.{_≡_, refl, ap}
-use mathlib.Core.Bool.{Bool, false, cond}
+use mathlib.Core.Bool.{false, cond}
 use lib.ListN.{length, length-append}
-use lib.Ieee.{Float}
-use Rattle.block.specs.Block.{after}
 use Rattle.block.proofs.Blocks.{samples-add, after-add, after-holds}
-use Rattle.refusal.specs.Refusal.{Noisy, noisy, InTwo}
+use Rattle.refusal.specs.Refusal.{Noisy, noisy}
 use Rattle.refusal.proofs.ByNumber.{shorter}
-use Rattle.refusal.proofs.InParts.{in-parts}
+use Rattle.refusal.proofs.Rows.{in-many}
 use Rattle.filter.specs.Svf as Filter
-use Rattle.filter.specs.declared.Svf.{Svf}
 use Rattle.filter.proofs.Tuned.{svf-stays}
 use Rattle.analog_snare_drum.specs.AnalogSnareDrum.{filterOf, settings, triggered, tunedMode, tuned, modeOutput, shellOutput, step, renderRefusal, render}
-use Rattle.analog_snare_drum.specs.AnyBlockLength.{AnyBlockLength}
+use Rattle.analog_snare_drum.specs.AnyBlockLength.{AnyBlockLength, AnyBlockLengths}
 use Rattle.analog_snare_drum.specs.declared.AnalogSnareDrum.{AnalogSnareDrum}
-use Rattle.analog_snare_drum.specs.declared.Knobs.{Knobs}
 use Rattle.analog_snare_drum.specs.declared.Settings.{Settings}
 
 -- to tune it again changes nothing
@@ -40,9 +36,9 @@ stays b s e =
       svf-stays _ _ _ _ (ap (λ (v : AnalogSnareDrum). v .«noise_filter») e),
     )
 
-in-two : (s : Noisy AnalogSnareDrum) (trigger : Bool) (accent : Float) (k : Knobs) → InTwo (render s trigger accent k) (λ left. render left false accent k)
+pub any-block-length : AnyBlockLength
 unfolding renderRefusal
-in-two s trigger accent k a b h =
+any-block-length s trigger accent k a b h =
     let whole = rw length-append at h in
     let first = shorter (length a) (length a + length b) _ (omega arith) whole in
     let second = shorter (length b) (length a + length b) _ (omega arith) whole in
@@ -51,5 +47,6 @@ in-two s trigger accent k a b h =
     let still = after-holds (step q) (Tuned q) (stays q) (length a) start (tunes q _ (s .noise)) in
     rw (length-append, whole, first, second, still, after-add, samples-add)
 
-pub any-block-length : AnyBlockLength
-any-block-length s trigger accent k = in-parts (λ left. render left false accent k) (λ left. in-two left false accent k) _ (in-two s trigger accent k)
+pub any-block-lengths : AnyBlockLengths
+any-block-lengths s trigger accent k =
+    in-many (λ left. render left false accent k) (λ left. any-block-length left false accent k) _ (any-block-length s trigger accent k)

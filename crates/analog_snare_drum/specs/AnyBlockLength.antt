@@ -2,11 +2,18 @@
 -- noise state, reached or not. Definitions only.
 use mathlib.Core.Bool.{Bool, false}
 use lib.Ieee.{Float}
-use Rattle.refusal.specs.Refusal.{Noisy, noisy, InParts}
+use Rattle.refusal.specs.Refusal.{Noisy, InTwo, InMany}
 use Rattle.analog_snare_drum.specs.AnalogSnareDrum.{render}
 use Rattle.analog_snare_drum.specs.declared.AnalogSnareDrum.{AnalogSnareDrum}
 use Rattle.analog_snare_drum.specs.declared.Knobs.{Knobs}
 
 abbrev pub AnyBlockLength : Type 0
 AnyBlockLength =
-    (s : Noisy AnalogSnareDrum) (trigger : Bool) (accent : Float) (k : Knobs) → InParts (render s trigger accent k) (λ left. render left false accent k)
+    (s : Noisy AnalogSnareDrum) (trigger : Bool) (accent : Float) (k : Knobs)
+    → InTwo (render s trigger accent k) (λ left. render left false accent k)
+
+-- and so in blocks of any lengths, one after the other
+abbrev pub AnyBlockLengths : Type 0
+AnyBlockLengths =
+    (s : Noisy AnalogSnareDrum) (trigger : Bool) (accent : Float) (k : Knobs)
+    → InMany (render s trigger accent k) (λ left. render left false accent k)

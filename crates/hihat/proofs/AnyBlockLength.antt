@@ -1,23 +1,22 @@
 -- Unsustained, the settings depend on the length in the interpolator's increment alone, which no pass reads; and a voice that is tuned stays so. What is left is
 -- `block`'s law of a stage over two buffers.
-use Prim.Native.Nat.{ℕ, _≤_}
+use Prim.Native.Nat.{ℕ}
 use native.Mathlib.Omega.{arith}
-use mathlib.Core.Path.{_≡_, refl, ap, _∙_, fun-ext}
+use mathlib.Core.Path.{_≡_, refl, ap, fun-ext}
 use mathlib.Core.Bool.{Bool, true, false, cond}
-use mathlib.Core.List.{List, _++_}
+use mathlib.Core.List.{_++_}
 use lib.ListN.{length, length-append}
 use lib.Ieee.{Float}
-use Rattle.ieee754.specs.Single.{decimal}
-use Rattle.block.specs.Block.{Turn, Passed, scanned, pass, setting}
+use Rattle.block.specs.Block.{Passed, scanned, pass, setting}
 use Rattle.block.proofs.Blocks.{any-lengths, scan-append, scanned-append, scanned-holds}
-use Rattle.refusal.specs.Refusal.{Noisy, noisy, InTwo}
+use Rattle.refusal.specs.Refusal.{Noisy, noisy}
 use Rattle.refusal.proofs.ByNumber.{shorter-at-rate}
-use Rattle.refusal.proofs.InParts.{in-parts}
+use Rattle.refusal.proofs.Rows.{in-many}
 use Rattle.filter.specs.Svf as Svf
 use Rattle.filter.proofs.Tuned.{svf-stays}
 use Rattle.hihat.specs.Hihat.{settings, triggered, metallic, setColoration, colored, clocked, decay, amplified, setHpf, highPassed, voiced, passes, renderRefusal, render}
 use Rattle.hihat.specs.OnePass.{tuned, step}
-use Rattle.hihat.specs.AnyBlockLength.{AnyBlockLength, AnyNoiseLength}
+use Rattle.hihat.specs.AnyBlockLength.{AnyBlockLength, AnyBlockLengths, AnyNoiseLength}
 use Rattle.hihat.specs.declared.Hihat.{Hihat}
 use Rattle.hihat.specs.declared.Knobs.{Knobs}
 use Rattle.hihat.specs.declared.Settings.{Settings}
@@ -59,10 +58,9 @@ stays b hz s x t = record {
   rate = t .rate;
 }
 
-in-two : (s : Noisy Hihat) (trigger : Bool) (kind : VcaType) (k : Knobs) → k .sustain ≡ false
-    → InTwo (render s trigger kind k) (λ left. render left false kind k)
+pub any-block-length : AnyBlockLength
 unfolding renderRefusal
-in-two s trigger kind k unsustained a b h =
+any-block-length s trigger kind k unsustained a b h =
     let v = s .voice in
     let n = length (a ++ b) in
     let first = shorter-at-rate (v .«sample_rate») n _ h (length a) (omega (arith, length-append a b)) in
@@ -83,9 +81,9 @@ in-two s trigger kind k unsustained a b h =
       scanned-append,
     )
 
-pub any-block-length : AnyBlockLength
-any-block-length s trigger kind k unsustained =
-    in-parts (λ left. render left false kind k) (λ left. in-two left false kind k unsustained) _ (in-two s trigger kind k unsustained)
+pub any-block-lengths : AnyBlockLengths
+any-block-lengths s trigger kind k unsustained =
+    in-many (λ left. render left false kind k) (λ left. any-block-length left false kind k unsustained) _ (any-block-length s trigger kind k unsustained)
 
 pub any-noise-length : AnyNoiseLength
 any-noise-length f0 = any-lengths _

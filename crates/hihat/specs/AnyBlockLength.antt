@@ -4,7 +4,7 @@ use mathlib.Core.Path.{_≡_}
 use mathlib.Core.Bool.{Bool, false}
 use lib.Ieee.{Float}
 use Rattle.block.specs.Block.{AnyLengths}
-use Rattle.refusal.specs.Refusal.{Noisy, InParts}
+use Rattle.refusal.specs.Refusal.{Noisy, InTwo, InMany}
 use Rattle.hihat.specs.SquareNoise as SquareNoise
 use Rattle.hihat.specs.Hihat.{render}
 use Rattle.hihat.specs.declared.Hihat.{Hihat}
@@ -14,7 +14,13 @@ use Rattle.hihat.specs.declared.VcaType.{VcaType}
 abbrev pub AnyBlockLength : Type 0
 AnyBlockLength =
     (s : Noisy Hihat) (trigger : Bool) («vca_type» : VcaType) (k : Knobs) → k .sustain ≡ false
-    → InParts (render s trigger «vca_type» k) (λ left. render left false «vca_type» k)
+    → InTwo (render s trigger «vca_type» k) (λ left. render left false «vca_type» k)
+
+-- and so in blocks of any lengths, one after the other
+abbrev pub AnyBlockLengths : Type 0
+AnyBlockLengths =
+    (s : Noisy Hihat) (trigger : Bool) («vca_type» : VcaType) (k : Knobs) → k .sustain ≡ false
+    → InMany (render s trigger «vca_type» k) (λ left. render left false «vca_type» k)
 
 -- the square noise by itself, which refuses nothing: at every f0, a NaN too
 abbrev pub AnyNoiseLength : Type 0

@@ -56,7 +56,7 @@ call n newState newOut state out = record { number = n; state = unlessRefused n 
 
 -- ---- calls one after the other
 
--- two calls as one: the number of the first refusal, the state that the second leaves, and the two buffers one after the other
+-- two calls as one: the number of the first refusal, so 0 where both are accepted; the state that the second leaves; the two buffers one after the other
 abbrev pub both : {State : Type 0} → Call State → Call State → Call State
 both first second =
     record {
@@ -70,14 +70,14 @@ unfoldable pub row : {State : Type 0} → (State → List Float → Call State) 
 row next first [] = first
 row next first (out ∷ outs) = both first (row next (next (first .state) out) outs)
 
--- where `first` accepts a buffer, it gives what it gives over a part of that buffer, and `next` over the rest
+-- where `first` accepts a buffer, it gives what it gives over a part of that buffer and then `next` over the rest
 abbrev pub InTwo : {State : Type 0} → (List Float → Call State) → (State → List Float → Call State) → Type 0
 InTwo first next = (a b : List Float) → first (a ++ b) .number ≡ 0 → first (a ++ b) ≡ both (first a) (next (first a .state) b)
 
--- any block length: in two parts, and in any number of them
-pub record InParts {State : Type 0} (first : List Float → Call State) (next : State → List Float → Call State) : Type 0 where
-  pub two : InTwo first next
-  pub many : (a : List Float) (outs : List (List Float)) → first (a ++ flatten outs) .number ≡ 0 → first (a ++ flatten outs) ≡ row next (first a) outs
+-- the same of a buffer that is cut into any number of parts
+abbrev pub InMany : {State : Type 0} → (List Float → Call State) → (State → List Float → Call State) → Type 0
+InMany first next =
+    (a : List Float) (outs : List (List Float)) → first (a ++ flatten outs) .number ≡ 0 → first (a ++ flatten outs) ≡ row next (first a) outs
 
 -- ---- the questions
 

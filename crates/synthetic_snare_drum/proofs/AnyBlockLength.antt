@@ -2,21 +2,20 @@
 -- `block`'s law of a + b turns.
 use Prim.Native.Nat.{ℕ, _+_}
 use native.Mathlib.Omega.{arith}
-use mathlib.Core.Path.{_≡_, refl, ap, _∙_, fun-ext}
+use mathlib.Core.Path.{_≡_, refl, ap, fun-ext}
 use mathlib.Core.Bool.{Bool, true, false, cond}
 use lib.ListN.{length, length-append}
 use lib.Ieee.{Float}
-use Rattle.ieee754.specs.Single.{decimal}
-use Rattle.block.specs.Block.{Turn, after}
+use Rattle.block.specs.Block.{after}
 use Rattle.block.proofs.Blocks.{samples-add, after-add, after-holds}
-use Rattle.refusal.specs.Refusal.{Noisy, noisy, InTwo}
+use Rattle.refusal.specs.Refusal.{Noisy, noisy}
 use Rattle.refusal.proofs.ByNumber.{shorter-at-rate}
-use Rattle.refusal.proofs.InParts.{in-parts}
+use Rattle.refusal.proofs.Rows.{in-many}
 use Rattle.filter.specs.OnePole as OnePole
 use Rattle.filter.specs.Svf as Svf
 use Rattle.filter.proofs.Tuned.{svf-stays, one-pole-stays}
 use Rattle.synthetic_snare_drum.specs.SyntheticSnareDrum.{settings, tuned, triggered, step, renderRefusal, render}
-use Rattle.synthetic_snare_drum.specs.AnyBlockLength.{AnyBlockLength}
+use Rattle.synthetic_snare_drum.specs.AnyBlockLength.{AnyBlockLength, AnyBlockLengths}
 use Rattle.synthetic_snare_drum.specs.declared.SyntheticSnareDrum.{SyntheticSnareDrum}
 use Rattle.synthetic_snare_drum.specs.declared.Knobs.{Knobs}
 use Rattle.synthetic_snare_drum.specs.declared.Settings.{Settings}
@@ -56,9 +55,9 @@ unfolding tuned triggered OnePole.setF Svf.setGQ Svf.setGR
 begins b s true k = record { again = refl; rate = refl }
 begins b s false k = record { again = refl; rate = refl }
 
-in-two : (s : Noisy SyntheticSnareDrum) (trigger : Bool) (k : Knobs) → k .sustain ≡ false → InTwo (render s trigger k) (λ left. render left false k)
+pub any-block-length : AnyBlockLength
 unfolding renderRefusal
-in-two s trigger k unsustained a b h =
+any-block-length s trigger k unsustained a b h =
     let v = s .voice in
     let n = length a + length b in
     let whole = rw length-append at h in
@@ -82,6 +81,6 @@ in-two s trigger k unsustained a b h =
       samples-add,
     )
 
-pub any-block-length : AnyBlockLength
-any-block-length s trigger k unsustained =
-    in-parts (λ left. render left false k) (λ left. in-two left false k unsustained) _ (in-two s trigger k unsustained)
+pub any-block-lengths : AnyBlockLengths
+any-block-lengths s trigger k unsustained =
+    in-many (λ left. render left false k) (λ left. any-block-length left false k unsustained) _ (any-block-length s trigger k unsustained)

@@ -2,11 +2,18 @@
 -- voice and noise state, reached or not. A sustained block is none, since its gain slides over its own length. Definitions only.
 use mathlib.Core.Path.{_≡_}
 use mathlib.Core.Bool.{Bool, false}
-use Rattle.refusal.specs.Refusal.{Noisy, InParts}
+use Rattle.refusal.specs.Refusal.{Noisy, InTwo, InMany}
 use Rattle.synthetic_snare_drum.specs.SyntheticSnareDrum.{render}
 use Rattle.synthetic_snare_drum.specs.declared.SyntheticSnareDrum.{SyntheticSnareDrum}
 use Rattle.synthetic_snare_drum.specs.declared.Knobs.{Knobs}
 
 abbrev pub AnyBlockLength : Type 0
 AnyBlockLength =
-    (s : Noisy SyntheticSnareDrum) (trigger : Bool) (k : Knobs) → k .sustain ≡ false → InParts (render s trigger k) (λ left. render left false k)
+    (s : Noisy SyntheticSnareDrum) (trigger : Bool) (k : Knobs) → k .sustain ≡ false
+    → InTwo (render s trigger k) (λ left. render left false k)
+
+-- and so in blocks of any lengths, one after the other
+abbrev pub AnyBlockLengths : Type 0
+AnyBlockLengths =
+    (s : Noisy SyntheticSnareDrum) (trigger : Bool) (k : Knobs) → k .sustain ≡ false
+    → InMany (render s trigger k) (λ left. render left false k)

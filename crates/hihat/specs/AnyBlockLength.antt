@@ -13,14 +13,14 @@ use Rattle.hihat.specs.declared.VcaType.{VcaType}
 
 abbrev pub AnyBlockLength : Type 0
 AnyBlockLength =
-    (s : Noisy Hihat) (trigger : Bool) («vca_type» : VcaType) (k : Knobs) → k .sustain ≡ false
-    → InTwo (render s trigger «vca_type» k) (λ left. render left false «vca_type» k)
+    (s : Noisy Hihat) (trigger : Bool) («vca_type» : VcaType) (k : Knobs)
+    → k .sustain ≡ false → InTwo (render s trigger «vca_type» k) (λ left. render left false «vca_type» k)
 
 -- and so in blocks of any lengths, one after the other
 abbrev pub AnyBlockLengths : Type 0
 AnyBlockLengths =
-    (s : Noisy Hihat) (trigger : Bool) («vca_type» : VcaType) (k : Knobs) → k .sustain ≡ false
-    → InMany (render s trigger «vca_type» k) (λ left. render left false «vca_type» k)
+    (s : Noisy Hihat) (trigger : Bool) («vca_type» : VcaType) (k : Knobs)
+    → k .sustain ≡ false → InMany (render s trigger «vca_type» k) (λ left. render left false «vca_type» k)
 
 -- the square noise by itself, which refuses nothing: at every f0, a NaN too
 abbrev pub AnyNoiseLength : Type 0

@@ -9,11 +9,11 @@ use Rattle.synthetic_snare_drum.specs.declared.Knobs.{Knobs}
 
 abbrev pub AnyBlockLength : Type 0
 AnyBlockLength =
-    (s : Noisy SyntheticSnareDrum) (trigger : Bool) (k : Knobs) → k .sustain ≡ false
-    → InTwo (render s trigger k) (λ left. render left false k)
+    (s : Noisy SyntheticSnareDrum) (trigger : Bool) (k : Knobs)
+    → k .sustain ≡ false → InTwo (render s trigger k) (λ left. render left false k)
 
 -- and so in blocks of any lengths, one after the other
 abbrev pub AnyBlockLengths : Type 0
 AnyBlockLengths =
-    (s : Noisy SyntheticSnareDrum) (trigger : Bool) (k : Knobs) → k .sustain ≡ false
-    → InMany (render s trigger k) (λ left. render left false k)
+    (s : Noisy SyntheticSnareDrum) (trigger : Bool) (k : Knobs)
+    → k .sustain ≡ false → InMany (render s trigger k) (λ left. render left false k)

@@ -2,7 +2,7 @@
 -- reached or not. Definitions only.
 use mathlib.Core.Bool.{Bool, false}
 use lib.Ieee.{Float}
-use Rattle.refusal.specs.Refusal.{InTwo, InMany}
+use Rattle.refusal.specs.Rows.{InTwo, InMany}
 use Rattle.analog_bass_drum.specs.AnalogBassDrum.{render}
 use Rattle.analog_bass_drum.specs.declared.AnalogBassDrum.{AnalogBassDrum}
 use Rattle.analog_bass_drum.specs.declared.Knobs.{Knobs}

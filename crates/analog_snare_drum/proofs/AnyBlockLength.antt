@@ -9,6 +9,7 @@ use Rattle.refusal.specs.Refusal.{Noisy, noisy}
 use Rattle.refusal.proofs.ByNumber.{shorter}
 use Rattle.refusal.proofs.Rows.{in-many}
 use Rattle.filter.specs.Svf as Filter
+use Rattle.filter.specs.declared.Svf.{Svf}
 use Rattle.filter.proofs.Tuned.{svf-stays}
 use Rattle.analog_snare_drum.specs.AnalogSnareDrum.{filterOf, settings, triggered, tunedMode, tuned, modeOutput, shellOutput, step, renderRefusal, render}
 use Rattle.analog_snare_drum.specs.AnyBlockLength.{AnyBlockLength, AnyBlockLengths}
@@ -19,20 +20,22 @@ use Rattle.analog_snare_drum.specs.declared.Settings.{Settings}
 abbrev Tuned : Settings → Noisy AnalogSnareDrum → Type 0
 Tuned b s = tuned b (s .voice) ≡ s .voice
 
-tunes : (b : Settings) (v : AnalogSnareDrum) (noise : ℕ) → Tuned b (noisy (tuned b v) noise)
+begins : (b : Settings) (v : AnalogSnareDrum) (noise : ℕ) → Tuned b (noisy (tuned b v) noise)
 unfolding tuned tunedMode Filter.setGQ Filter.setGR
-tunes b v noise = refl
+begins b v noise = refl
+
+abbrev mode : ℕ → AnalogSnareDrum → Svf
+mode i v = filterOf (v .resonator) i
 
 stays : (b : Settings) (s : Noisy AnalogSnareDrum) → Tuned b s → Tuned b (step b s .next)
 unfolding tuned tunedMode step shellOutput modeOutput
 stays b s e =
-    let mode : (i : ℕ) → filterOf (tuned b (s .voice) .resonator) i ≡ filterOf (s .voice .resonator) i = λ i. ap (λ (v : AnalogSnareDrum). filterOf (v .resonator) i) e in
     rw (
-      svf-stays _ _ _ _ (mode 0),
-      svf-stays _ _ _ _ (mode 1),
-      svf-stays _ _ _ _ (mode 2),
-      svf-stays _ _ _ _ (mode 3),
-      svf-stays _ _ _ _ (mode 4),
+      svf-stays _ _ _ _ (ap (mode 0) e),
+      svf-stays _ _ _ _ (ap (mode 1) e),
+      svf-stays _ _ _ _ (ap (mode 2) e),
+      svf-stays _ _ _ _ (ap (mode 3) e),
+      svf-stays _ _ _ _ (ap (mode 4) e),
       svf-stays _ _ _ _ (ap (λ (v : AnalogSnareDrum). v .«noise_filter») e),
     )
 
@@ -44,8 +47,8 @@ any-block-length s trigger accent k a b h =
     let second = shorter (length b) (length a + length b) _ (omega arith) whole in
     let q = settings k in
     let start = noisy (tuned q (cond trigger (triggered (s .voice) accent) (s .voice))) (s .noise) in
-    let still = after-holds (step q) (Tuned q) (stays q) (length a) start (tunes q _ (s .noise)) in
-    rw (length-append, whole, first, second, still, after-add, samples-add)
+    let again = after-holds (step q) (Tuned q) (stays q) (length a) start (begins q _ (s .noise)) in
+    rw (length-append, whole, first, second, again, after-add, samples-add)
 
 pub any-block-lengths : AnyBlockLengths
 any-block-lengths s trigger accent k =

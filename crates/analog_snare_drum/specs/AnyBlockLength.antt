@@ -2,7 +2,8 @@
 -- noise state, reached or not. Definitions only.
 use mathlib.Core.Bool.{Bool, false}
 use lib.Ieee.{Float}
-use Rattle.refusal.specs.Refusal.{Noisy, InTwo, InMany}
+use Rattle.refusal.specs.Refusal.{Noisy}
+use Rattle.refusal.specs.Rows.{InTwo, InMany}
 use Rattle.analog_snare_drum.specs.AnalogSnareDrum.{render}
 use Rattle.analog_snare_drum.specs.declared.AnalogSnareDrum.{AnalogSnareDrum}
 use Rattle.analog_snare_drum.specs.declared.Knobs.{Knobs}

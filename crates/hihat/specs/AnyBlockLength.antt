@@ -3,8 +3,9 @@
 use mathlib.Core.Path.{_≡_}
 use mathlib.Core.Bool.{Bool, false}
 use lib.Ieee.{Float}
-use Rattle.block.specs.Block.{AnyLengths}
-use Rattle.refusal.specs.Refusal.{Noisy, InTwo, InMany}
+use Rattle.block.specs.AnyLengths.{AnyLengths}
+use Rattle.refusal.specs.Refusal.{Noisy}
+use Rattle.refusal.specs.Rows.{InTwo, InMany}
 use Rattle.hihat.specs.SquareNoise as SquareNoise
 use Rattle.hihat.specs.Hihat.{render}
 use Rattle.hihat.specs.declared.Hihat.{Hihat}

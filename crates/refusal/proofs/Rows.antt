@@ -4,7 +4,8 @@ use native.Mathlib.Omega.{arith}
 use mathlib.Core.Path.{_≡_, sym, ap, _∙_}
 use mathlib.Core.List.{List, [], _∷_, _++_, flatten, append-nil}
 use lib.Ieee.{Float}
-use Rattle.refusal.specs.Refusal.{Call, unlessRefused, both, row, InTwo, InMany}
+use Rattle.refusal.specs.Refusal.{Call, unlessRefused}
+use Rattle.refusal.specs.Rows.{both, row, InTwo, InMany}
 
 -- the second of two calls that are accepted as one is accepted
 second-accepted : (m n : ℕ) → unlessRefused m n m ≡ 0 → n ≡ 0

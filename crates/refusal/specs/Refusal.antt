@@ -1,8 +1,7 @@
 -- Refusals of a voice's call, their numbers, what a call gives, and the questions. Definitions only.
 use Prim.Native.Nat.{ℕ, zero, suc, _^_}
-use mathlib.Core.Path.{_≡_}
 use mathlib.Core.Bool.{Bool, true, false, _&&_}
-use mathlib.Core.List.{List, [], _∷_, _++_, flatten}
+use mathlib.Core.List.{List}
 use lib.Dec.{leb}
 use lib.Ieee.{Float, binary32, le, round}
 use Rattle.ieee754.specs.Single.{decimal}
@@ -53,31 +52,6 @@ pub record Call (State : Type 0) : Type 0 where
 -- a call of the number n that makes a new state and a new buffer of the old ones: a refusal leaves both as they were
 abbrev pub call : {State : Type 0} → ℕ → State → List Float → State → List Float → Call State
 call n newState newOut state out = record { number = n; state = unlessRefused n newState state; out = unlessRefused n newOut out }
-
--- ---- calls one after the other
-
--- two calls as one: the number of the first refusal, so 0 where both are accepted; the state that the second leaves; the two buffers one after the other
-abbrev pub both : {State : Type 0} → Call State → Call State → Call State
-both first second =
-    record {
-      number = unlessRefused (first .number) (second .number) (first .number);
-      state = second .state;
-      out = first .out ++ second .out;
-    }
-
--- a row of calls as one: the first, and then `next` over each further buffer, from the state that the call before left
-unfoldable pub row : {State : Type 0} → (State → List Float → Call State) → Call State → List (List Float) → Call State
-row next first [] = first
-row next first (out ∷ outs) = both first (row next (next (first .state) out) outs)
-
--- where `first` accepts a buffer, it gives what it gives over a part of that buffer and then `next` over the rest
-abbrev pub InTwo : {State : Type 0} → (List Float → Call State) → (State → List Float → Call State) → Type 0
-InTwo first next = (a b : List Float) → first (a ++ b) .number ≡ 0 → first (a ++ b) ≡ both (first a) (next (first a .state) b)
-
--- the same of a buffer that is cut into any number of parts
-abbrev pub InMany : {State : Type 0} → (List Float → Call State) → (State → List Float → Call State) → Type 0
-InMany first next =
-    (a : List Float) (outs : List (List Float)) → first (a ++ flatten outs) .number ≡ 0 → first (a ++ flatten outs) ≡ row next (first a) outs
 
 -- ---- the questions
 

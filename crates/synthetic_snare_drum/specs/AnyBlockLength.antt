@@ -2,7 +2,8 @@
 -- voice and noise state, reached or not. A sustained block is none, since its gain slides over its own length. Definitions only.
 use mathlib.Core.Path.{_≡_}
 use mathlib.Core.Bool.{Bool, false}
-use Rattle.refusal.specs.Refusal.{Noisy, InTwo, InMany}
+use Rattle.refusal.specs.Refusal.{Noisy}
+use Rattle.refusal.specs.Rows.{InTwo, InMany}
 use Rattle.synthetic_snare_drum.specs.SyntheticSnareDrum.{render}
 use Rattle.synthetic_snare_drum.specs.declared.SyntheticSnareDrum.{SyntheticSnareDrum}
 use Rattle.synthetic_snare_drum.specs.declared.Knobs.{Knobs}

@@ -1,0 +1,28 @@
+-- Calls one after the other, each from the state that the one before left, and what it is for one call to be such a row. Definitions only.
+use mathlib.Core.Path.{_≡_}
+use mathlib.Core.List.{List, [], _∷_, _++_, flatten}
+use lib.Ieee.{Float}
+use Rattle.refusal.specs.Refusal.{Call, unlessRefused}
+
+-- two calls as one: the number of the first refusal, so 0 where both are accepted; the state that the second leaves; the two buffers one after the other
+abbrev pub both : {State : Type 0} → Call State → Call State → Call State
+both first second =
+    record {
+      number = unlessRefused (first .number) (second .number) (first .number);
+      state = second .state;
+      out = first .out ++ second .out;
+    }
+
+-- a row of calls as one: the first, and then `next` over each further buffer, from the state that the call before left
+unfoldable pub row : {State : Type 0} → (State → List Float → Call State) → Call State → List (List Float) → Call State
+row next first [] = first
+row next first (out ∷ outs) = both first (row next (next (first .state) out) outs)
+
+-- where `first` accepts a buffer, it gives what it gives over a part of that buffer and then `next` over the rest
+abbrev pub InTwo : {State : Type 0} → (List Float → Call State) → (State → List Float → Call State) → Type 0
+InTwo first next = (a b : List Float) → first (a ++ b) .number ≡ 0 → first (a ++ b) ≡ both (first a) (next (first a .state) b)
+
+-- the same of a buffer that is cut into any number of parts
+abbrev pub InMany : {State : Type 0} → (List Float → Call State) → (State → List Float → Call State) → Type 0
+InMany first next =
+    (a : List Float) (outs : List (List Float)) → first (a ++ flatten outs) .number ≡ 0 → first (a ++ flatten outs) ≡ row next (first a) outs

@@ -105,7 +105,8 @@ pub fn script(r: &mut Random, voice: char, longest: u32) -> Vec<Row> {
     rows
 }
 
-fn row(r: &mut Random, voice: char, kind: Kind, longest: u32) -> Row {
+/// One call. Of eight renders one has a knob that may be out of range.
+pub fn row(r: &mut Random, voice: char, kind: Kind, longest: u32) -> Row {
     let noise = if r.one_in(8) { 33 } else { r.word() };
     let mut row = Row { voice, kind, flags: 0, samples: 0, knobs: [0.0; 6], noise };
     match kind {

@@ -1,5 +1,6 @@
 //! The published Rust and the compiled port, to be held against each other.
 pub mod calls;
+pub mod cuts;
 pub mod draws;
 pub mod filters;
 pub mod min_max;

@@ -26,13 +26,18 @@ fn same_float(state: u32) -> bool {
     same(draw.value, value) && draw.word == port::bechullpi_random_get_word(state)
 }
 
+/// Any float, or one at which the waves run unequally.
+pub fn square_noise_f0(r: &mut Random) -> f32 {
+    if r.one_in(2) { any(r) } else { r.unit() * 0.3 }
+}
+
 /// Three blocks, the first from zero phases, the others from where the one before left them.
 fn same_square_noise(r: &mut Random) -> bool {
     let mut rust = SquareNoise::new();
     rust.init();
     let mut noise = port::bechullpi_hihat_square_noise_init(port::bechullpi_hihat_square_noise_zero());
     (0..3).all(|_| {
-        let f0 = if r.one_in(2) { any(r) } else { r.unit() * 0.3 };
+        let f0 = square_noise_f0(r);
         let mut out = vec![0.5; r.below(24) as usize];
         let mut rust_out = out.clone();
         rust.render(f0, &mut rust_out);

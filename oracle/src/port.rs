@@ -6,6 +6,8 @@ use crate::row::{Kind, LINEAR, RESONANCE, Row, SUSTAIN, TRIGGER, TWO_STAGE};
 use crate::state::words;
 use crate::voices::Played;
 pub use declarations::*;
+use std::array::from_fn;
+use std::mem::transmute;
 
 pub fn svf_process_buffer(filter: Svf, in_: &[f32], out: &mut [f32], mode: FilterMode) -> Svf {
     unsafe { bechullpi_filter_svf_process_buffer(filter, in_.as_ptr(), in_.len(), out.as_mut_ptr(), out.len(), mode) }
@@ -68,6 +70,7 @@ pub fn hihat_render(voice: Hihat, noise: u32, [trigger, linear]: [bool; 2], knob
 }
 
 /// The records that calls are played on.
+#[derive(Clone, Copy)]
 pub struct Records {
     b: AnalogBassDrum,
     s: AnalogSnareDrum,
@@ -87,6 +90,21 @@ impl Default for Records {
 }
 
 impl Records {
+    /// Records of any words, reached by calls or not; those that store a rate have this one. Their fields are floats and u32 alone, so every word is
+    /// a value.
+    pub fn of_words(rate: f32, mut word: impl FnMut() -> u32) -> Self {
+        let mut records = unsafe {
+            Records {
+                b: transmute::<[u32; 19], AnalogBassDrum>(from_fn(|_| word())),
+                s: transmute::<[u32; 37], AnalogSnareDrum>(from_fn(|_| word())),
+                y: transmute::<[u32; 19], SyntheticSnareDrum>(from_fn(|_| word())),
+                h: transmute::<[u32; 21], Hihat>(from_fn(|_| word())),
+            }
+        };
+        (records.y.sample_rate_hz, records.h.sample_rate) = (rate, rate);
+        records
+    }
+
     /// The call of a row, and what it leaves in the record, the noise state and `out`.
     pub fn play(&mut self, row: &Row, out: &mut [f32]) -> Played {
         let (refusal, noise) = match row.kind {
@@ -133,7 +151,8 @@ impl Records {
         }
     }
 
-    fn render(&mut self, row: &Row, out: &mut [f32]) -> (u32, u32) {
+    /// The number of the refusal and the noise state after a block of as many samples as `out` has places.
+    pub fn render(&mut self, row: &Row, out: &mut [f32]) -> (u32, u32) {
         let [sustain, trigger] = [row.flag(SUSTAIN), row.flag(TRIGGER)];
         match row.voice {
             'b' => {
@@ -161,7 +180,7 @@ impl Records {
     }
 
     /// The fields in the order of their declaration.
-    fn state(&self, voice: char) -> Vec<u32> {
+    pub fn state(&self, voice: char) -> Vec<u32> {
         match voice {
             'b' => words(&format!("{:?}", self.b), &[]),
             's' => words(&format!("{:?}", self.s), &[]),

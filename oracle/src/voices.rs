@@ -57,6 +57,25 @@ pub struct Played {
     pub state: Vec<u32>,
 }
 
+/// All that a call leaves. Two are the same where every word is, a NaN of the samples being one pattern.
+pub struct Outcome {
+    pub played: Played,
+    samples: Vec<f32>,
+}
+
+impl PartialEq for Outcome {
+    fn eq(&self, other: &Self) -> bool {
+        self.played == other.played && same_all(&self.samples, &other.samples)
+    }
+}
+
+/// A call played into a buffer, which a refused one leaves as it is.
+pub fn outcome(row: &Row, play: impl FnOnce(&mut [f32]) -> Played) -> Outcome {
+    let mut samples = vec![0.25; row.samples as usize];
+    let played = play(&mut samples);
+    Outcome { played, samples }
+}
+
 /// Runs `scripts` random scripts a voice on both sides and tells how many calls leave something else.
 pub fn compare(scripts: u32) -> u64 {
     ['b', 's', 'y', 'h'].into_iter().map(|voice| compare_voice(voice, scripts)).sum()
@@ -67,17 +86,15 @@ fn compare_voice(voice: char, scripts: u32) -> u64 {
     let (mut rust, mut port) = (Voices::default(), Records::default());
     let (mut calls, mut refused, mut samples, mut differ) = (0u64, 0u64, 0u64, 0u64);
     for row in (0..scripts).flat_map(|_| script(&mut r, voice, 16384)) {
-        // a refused call leaves this as it is
-        let mut want = vec![0.25; row.samples as usize];
-        let mut got = want.clone();
-        let (played, ported) = (rust.play(&row, &mut want), port.play(&row, &mut got));
+        let want = outcome(&row, |out| rust.play(&row, out));
+        let got = outcome(&row, |out| port.play(&row, out));
         calls += 1;
-        refused += u64::from(played.refusal != 0);
-        samples += if played.refusal == 0 && matches!(row.kind, Kind::Render) { u64::from(row.samples) } else { 0 };
-        if played != ported || !same_all(&want, &got) {
+        refused += u64::from(want.played.refusal != 0);
+        samples += if want.played.refusal == 0 && matches!(row.kind, Kind::Render) { u64::from(row.samples) } else { 0 };
+        if want != got {
             differ += 1;
             if differ <= 5 {
-                println!("call {row}\nRust {played:?}\nport {ported:?}");
+                println!("call {row}\nRust {:?}\nport {:?}", want.played, got.played);
             }
         }
     }

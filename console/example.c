@@ -8,6 +8,7 @@
 #include <string.h>
 
 enum { BLOCK = 64, BLOCKS = 750 }; // a second
+enum { CUE = 14400 };              // 0.3 seconds
 static const float RATE = 48000.0f;
 
 // What the console keeps between blocks: the records, and the state of the noise that they draw from.
@@ -120,6 +121,24 @@ static void be_refused(const kit *k)
     printf("an accent of 1.5 is refused by %" PRIu32 "; the rest is %s\n", h.number, kept ? "as it was" : "CHANGED");
 }
 
+// One cue in blocks of a length, the last one shorter where that does not divide: the first block is triggered, the others are not, the knobs stay, and
+// record and noise are handed on. Nothing is sustained, so it is the same cue at every length from 1 to 16,384.
+static void play_cue(size_t length)
+{
+    static float out[CUE];
+    bechullpi_hihat_knobs knobs = {.accent = 0.8f, .f0 = 420.0f / RATE, .tone = 0.6f, .decay = 0.6f, .noisiness = 0.5f, .resonance = true};
+    bechullpi_hihat_answered a = bechullpi_hihat_init(bechullpi_hihat_zero(), RATE);
+    bechullpi_hihat_rendered h = {a.number, a.voice, 33};
+    for (size_t at = 0; at < CUE && h.number == 0; at += length) {
+        size_t left = CUE - at;
+        h = bechullpi_hihat_render(h.voice, h.noise, at == 0, BECHULLPI_SWING_VCA, knobs, out + at, left < length ? left : length);
+    }
+    uint32_t d = 2166136261u;
+    for (int i = 0; i < CUE; i++)
+        d = digest(d, out[i]);
+    printf("a cue in blocks of %zu is answered %" PRIu32 ": digest %08" PRIx32 ", noise %08" PRIx32 "\n", length, h.number, d, h.noise);
+}
+
 // A whole sheet in one call: sheets/joint.csv.
 static void play_sheet(void)
 {
@@ -145,6 +164,9 @@ int main(void)
         return 1;
     }
     be_refused(&k);
+    play_cue(64);
+    play_cue(441);
+    play_cue(CUE);
     play_sheet();
     return 0;
 }

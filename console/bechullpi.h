@@ -36,6 +36,12 @@
 // A voice that draws noise takes the state of the generator and answers the next one. Hand it on from call to call. Any state will do;
 // sheets start from 33.
 //
+// BLOCKS
+// How a sound is cut into blocks cannot be heard. Where a block is accepted and does not sustain, blocks of any lengths that add up to it,
+// the first triggered as it is and the others not, with the same knobs, are accepted, give its samples and leave its record and noise
+// state, bit for bit; this is proved. A block may have 0 samples; it may still change the record. A sustained block is excepted: its gain
+// slides over the block's own length.
+//
 // POINTERS
 // A buffer crosses as a pointer to its first place and the number of its places. The pointer is not null, also where the number is 0.
 // Every place holds some value before the call. `out` has no place in common with the other buffer of the call.

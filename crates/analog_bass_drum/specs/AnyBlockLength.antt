@@ -1,5 +1,5 @@
--- Any audio block length: an accepted block is a block of its first samples and then untriggered blocks of the others, with the same knobs, for every voice,
--- reached or not. Definitions only.
+-- Any audio block length: an accepted block is a block of its first samples and then untriggered blocks of the others, with the same knobs,
+-- for every record, whether calls reach it or not. Definitions only.
 use mathlib.Core.Bool.{Bool, false}
 use lib.Ieee.{Float}
 use Rattle.refusal.specs.Rows.{InTwo, InMany}

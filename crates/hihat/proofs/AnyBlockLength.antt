@@ -1,5 +1,5 @@
--- Unsustained, the settings depend on the length in the interpolator's increment alone, which no pass reads; and a voice that is tuned stays so. What is left is
--- `block`'s law of a stage over two buffers.
+-- Unsustained, the settings depend on the length in the interpolator's increment alone, which no pass reads; and a voice that is tuned stays so. What is
+-- left is `block`'s law of a stage over two buffers.
 use Prim.Native.Nat.{ℕ}
 use native.Mathlib.Omega.{arith}
 use mathlib.Core.Path.{_≡_, refl, ap, fun-ext}

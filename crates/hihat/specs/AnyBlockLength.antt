@@ -1,5 +1,5 @@
--- Any audio block length: an accepted, unsustained block is a block of its first samples and then untriggered blocks of the others, with the same knobs, for every
--- voice and noise state, reached or not. A sustained block is none, since its gain slides over its own length. Definitions only.
+-- Any audio block length: an accepted, unsustained block is a block of its first samples and then untriggered blocks of the others, with the same knobs,
+-- for every record and noise state, whether calls reach it or not. A sustained block is excepted, since its gain slides over its own length. Definitions only.
 use mathlib.Core.Path.{_≡_}
 use mathlib.Core.Bool.{Bool, false}
 use lib.Ieee.{Float}
@@ -23,6 +23,6 @@ AnyBlockLengths =
     (s : Noisy Hihat) (trigger : Bool) («vca_type» : VcaType) (k : Knobs)
     → k .sustain ≡ false → InMany (render s trigger «vca_type» k) (λ left. render left false «vca_type» k)
 
--- the square noise by itself, which refuses nothing: at every f0, a NaN too
+-- the square noise by itself, which refuses nothing: at every f0, a NaN too. What `filled` gives over this turn is what `SquareNoise::render` promises
 abbrev pub AnyNoiseLength : Type 0
 AnyNoiseLength = (f0 : Float) → AnyLengths (SquareNoise.turn (SquareNoise.increments f0))

@@ -4,7 +4,7 @@ use mathlib.Core.List.{List, [], _∷_, _++_, flatten}
 use lib.Ieee.{Float}
 use Rattle.refusal.specs.Refusal.{Call, unlessRefused}
 
--- two calls as one: the number of the first refusal, so 0 where both are accepted; the state that the second leaves; the two buffers one after the other
+-- two calls as one: the number of the first refusal, so 0 where both are accepted; the state that the second leaves; both buffers one after the other
 abbrev pub both : {State : Type 0} → Call State → Call State → Call State
 both first second =
     record {

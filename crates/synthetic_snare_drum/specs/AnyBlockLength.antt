@@ -1,5 +1,5 @@
--- Any audio block length: an accepted, unsustained block is a block of its first samples and then untriggered blocks of the others, with the same knobs, for every
--- voice and noise state, reached or not. A sustained block is none, since its gain slides over its own length. Definitions only.
+-- Any audio block length: an accepted, unsustained block is a block of its first samples and then untriggered blocks of the others, with the same knobs,
+-- for every record and noise state, whether calls reach it or not. A sustained block is excepted, since its gain slides over its own length. Definitions only.
 use mathlib.Core.Path.{_≡_}
 use mathlib.Core.Bool.{Bool, false}
 use Rattle.refusal.specs.Refusal.{Noisy}

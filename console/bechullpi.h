@@ -37,9 +37,9 @@
 // sheets start from 33.
 //
 // BLOCKS
-// How a sound is cut into blocks cannot be heard. Where a block is accepted and does not sustain, blocks of any lengths that add up to it,
-// the first triggered as it is and the others not, with the same knobs, are accepted, give its samples and leave its record and noise
-// state, bit for bit; this is proved. A block may have 0 samples; it may still change the record. A sustained block is excepted: its gain
+// How a sound is cut into blocks cannot be heard. Where nothing sustains, no block but the first is triggered and the knobs stay, any two ways
+// to cut it into accepted blocks give the same samples and leave the same record and noise state, bit for bit; and the parts of an accepted
+// block are accepted. This is proved. A block may have 0 samples, and may still change the record. A sustained block is excepted: its gain
 // slides over the block's own length.
 //
 // POINTERS

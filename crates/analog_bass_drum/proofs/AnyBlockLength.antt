@@ -5,7 +5,7 @@ use mathlib.Core.Bool.{false}
 use lib.ListN.{length, length-append}
 use Rattle.block.proofs.Blocks.{samples-add, after-add}
 use Rattle.refusal.proofs.ByNumber.{shorter}
-use Rattle.refusal.proofs.Rows.{in-many}
+use Rattle.refusal.proofs.Rows.{in-rows}
 use Rattle.analog_bass_drum.specs.AnalogBassDrum.{renderRefusal, render}
 use Rattle.analog_bass_drum.specs.AnyBlockLength.{AnyBlockLength, AnyBlockLengths}
 
@@ -19,4 +19,4 @@ any-block-length v trigger accent k a b h =
 
 pub any-block-lengths : AnyBlockLengths
 any-block-lengths v trigger accent k =
-    in-many (λ left. render left false accent k) (λ left. any-block-length left false accent k) _ (any-block-length v trigger accent k)
+    in-rows (λ left. render left false accent k) (λ left. any-block-length left false accent k) _ (any-block-length v trigger accent k)

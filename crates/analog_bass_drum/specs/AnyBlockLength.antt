@@ -2,7 +2,7 @@
 -- for every record, whether calls reach it or not. Definitions only.
 use mathlib.Core.Bool.{Bool, false}
 use lib.Ieee.{Float}
-use Rattle.refusal.specs.Rows.{InTwo, InMany}
+use Rattle.refusal.specs.Rows.{InTwo, InRows}
 use Rattle.analog_bass_drum.specs.AnalogBassDrum.{render}
 use Rattle.analog_bass_drum.specs.declared.AnalogBassDrum.{AnalogBassDrum}
 use Rattle.analog_bass_drum.specs.declared.Knobs.{Knobs}
@@ -12,8 +12,8 @@ AnyBlockLength =
     (v : AnalogBassDrum) (trigger : Bool) (accent : Float) (k : Knobs)
     → InTwo (render v trigger accent k) (λ left. render left false accent k)
 
--- and so in blocks of any lengths, one after the other
+-- and so in rows of blocks of any lengths, however long they are in all
 abbrev pub AnyBlockLengths : Type 0
 AnyBlockLengths =
     (v : AnalogBassDrum) (trigger : Bool) (accent : Float) (k : Knobs)
-    → InMany (render v trigger accent k) (λ left. render left false accent k)
+    → InRows (render v trigger accent k) (λ left. render left false accent k)

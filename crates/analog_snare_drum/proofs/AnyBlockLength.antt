@@ -7,7 +7,7 @@ use lib.ListN.{length, length-append}
 use Rattle.block.proofs.Blocks.{samples-add, after-add, after-holds}
 use Rattle.refusal.specs.Refusal.{Noisy, noisy}
 use Rattle.refusal.proofs.ByNumber.{shorter}
-use Rattle.refusal.proofs.Rows.{in-many}
+use Rattle.refusal.proofs.Rows.{in-rows}
 use Rattle.filter.specs.Svf as Filter
 use Rattle.filter.specs.declared.Svf.{Svf}
 use Rattle.filter.proofs.Tuned.{svf-stays}
@@ -52,4 +52,4 @@ any-block-length s trigger accent k a b h =
 
 pub any-block-lengths : AnyBlockLengths
 any-block-lengths s trigger accent k =
-    in-many (λ left. render left false accent k) (λ left. any-block-length left false accent k) _ (any-block-length s trigger accent k)
+    in-rows (λ left. render left false accent k) (λ left. any-block-length left false accent k) _ (any-block-length s trigger accent k)

@@ -3,7 +3,7 @@
 use mathlib.Core.Bool.{Bool, false}
 use lib.Ieee.{Float}
 use Rattle.refusal.specs.Refusal.{Noisy}
-use Rattle.refusal.specs.Rows.{InTwo, InMany}
+use Rattle.refusal.specs.Rows.{InTwo, InRows}
 use Rattle.analog_snare_drum.specs.AnalogSnareDrum.{render}
 use Rattle.analog_snare_drum.specs.declared.AnalogSnareDrum.{AnalogSnareDrum}
 use Rattle.analog_snare_drum.specs.declared.Knobs.{Knobs}
@@ -13,8 +13,8 @@ AnyBlockLength =
     (s : Noisy AnalogSnareDrum) (trigger : Bool) (accent : Float) (k : Knobs)
     → InTwo (render s trigger accent k) (λ left. render left false accent k)
 
--- and so in blocks of any lengths, one after the other
+-- and so in rows of blocks of any lengths, however long they are in all
 abbrev pub AnyBlockLengths : Type 0
 AnyBlockLengths =
     (s : Noisy AnalogSnareDrum) (trigger : Bool) (accent : Float) (k : Knobs)
-    → InMany (render s trigger accent k) (λ left. render left false accent k)
+    → InRows (render s trigger accent k) (λ left. render left false accent k)

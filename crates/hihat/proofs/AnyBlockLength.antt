@@ -11,7 +11,7 @@ use Rattle.block.specs.Block.{Passed, scanned, pass, setting}
 use Rattle.block.proofs.Blocks.{any-lengths, scan-append, scanned-append, scanned-holds}
 use Rattle.refusal.specs.Refusal.{Noisy, noisy}
 use Rattle.refusal.proofs.ByNumber.{shorter-at-rate}
-use Rattle.refusal.proofs.Rows.{in-many}
+use Rattle.refusal.proofs.Rows.{in-rows}
 use Rattle.filter.specs.Svf as Svf
 use Rattle.filter.proofs.Tuned.{svf-stays}
 use Rattle.hihat.specs.Hihat.{settings, triggered, metallic, setColoration, colored, clocked, decay, amplified, setHpf, highPassed, voiced, passes, renderRefusal, render}
@@ -83,7 +83,7 @@ any-block-length s trigger kind k unsustained a b h =
 
 pub any-block-lengths : AnyBlockLengths
 any-block-lengths s trigger kind k unsustained =
-    in-many (λ left. render left false kind k) (λ left. any-block-length left false kind k unsustained) _ (any-block-length s trigger kind k unsustained)
+    in-rows (λ left. render left false kind k) (λ left. any-block-length left false kind k unsustained) _ (any-block-length s trigger kind k unsustained)
 
 pub any-noise-length : AnyNoiseLength
 any-noise-length f0 = any-lengths _

@@ -5,7 +5,7 @@ use mathlib.Core.Bool.{Bool, false}
 use lib.Ieee.{Float}
 use Rattle.block.specs.AnyLengths.{AnyLengths}
 use Rattle.refusal.specs.Refusal.{Noisy}
-use Rattle.refusal.specs.Rows.{InTwo, InMany}
+use Rattle.refusal.specs.Rows.{InTwo, InRows}
 use Rattle.hihat.specs.SquareNoise as SquareNoise
 use Rattle.hihat.specs.Hihat.{render}
 use Rattle.hihat.specs.declared.Hihat.{Hihat}
@@ -17,12 +17,12 @@ AnyBlockLength =
     (s : Noisy Hihat) (trigger : Bool) («vca_type» : VcaType) (k : Knobs)
     → k .sustain ≡ false → InTwo (render s trigger «vca_type» k) (λ left. render left false «vca_type» k)
 
--- and so in blocks of any lengths, one after the other
+-- and so in rows of blocks of any lengths, however long they are in all
 abbrev pub AnyBlockLengths : Type 0
 AnyBlockLengths =
     (s : Noisy Hihat) (trigger : Bool) («vca_type» : VcaType) (k : Knobs)
-    → k .sustain ≡ false → InMany (render s trigger «vca_type» k) (λ left. render left false «vca_type» k)
+    → k .sustain ≡ false → InRows (render s trigger «vca_type» k) (λ left. render left false «vca_type» k)
 
--- the square noise by itself, which refuses nothing: at every f0, a NaN too. What `filled` gives over this turn is what `SquareNoise::render` promises
+-- the square noise by itself, which refuses nothing: at every f0, a NaN too. A buffer filled by this turn is what its render promises
 abbrev pub AnyNoiseLength : Type 0
 AnyNoiseLength = (f0 : Float) → AnyLengths (SquareNoise.turn (SquareNoise.increments f0))

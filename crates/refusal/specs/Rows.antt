@@ -22,7 +22,9 @@ row next first (out ∷ outs) = both first (row next (next (first .state) out) o
 abbrev pub InTwo : {State : Type 0} → (List Float → Call State) → (State → List Float → Call State) → Type 0
 InTwo first next = (a b : List Float) → first (a ++ b) .number ≡ 0 → first (a ++ b) ≡ both (first a) (next (first a .state) b)
 
--- the same of a buffer that is cut into any number of parts
-abbrev pub InMany : {State : Type 0} → (List Float → Call State) → (State → List Float → Call State) → Type 0
-InMany first next =
-    (a : List Float) (outs : List (List Float)) → first (a ++ flatten outs) .number ≡ 0 → first (a ++ flatten outs) ≡ row next (first a) outs
+-- any number of parts: where `first` accepts a buffer, it gives what a row of calls over its parts gives; and two rows over one buffer, of any length, whose
+-- calls are all accepted give the same
+pub record InRows {State : Type 0} (first : List Float → Call State) (next : State → List Float → Call State) : Type 0 where
+  pub whole : (a : List Float) (outs : List (List Float)) → first (a ++ flatten outs) .number ≡ 0 → first (a ++ flatten outs) ≡ row next (first a) outs
+  pub cuts : (a a′ : List Float) (outs outs′ : List (List Float)) → a ++ flatten outs ≡ a′ ++ flatten outs′
+      → row next (first a) outs .number ≡ 0 → row next (first a′) outs′ .number ≡ 0 → row next (first a) outs ≡ row next (first a′) outs′

@@ -10,7 +10,7 @@ use Rattle.block.specs.Block.{after}
 use Rattle.block.proofs.Blocks.{samples-add, after-add, after-holds}
 use Rattle.refusal.specs.Refusal.{Noisy, noisy}
 use Rattle.refusal.proofs.ByNumber.{shorter-at-rate}
-use Rattle.refusal.proofs.Rows.{in-many}
+use Rattle.refusal.proofs.Rows.{in-rows}
 use Rattle.filter.specs.OnePole as OnePole
 use Rattle.filter.specs.Svf as Svf
 use Rattle.filter.proofs.Tuned.{svf-stays, one-pole-stays}
@@ -83,4 +83,4 @@ any-block-length s trigger k unsustained a b h =
 
 pub any-block-lengths : AnyBlockLengths
 any-block-lengths s trigger k unsustained =
-    in-many (λ left. render left false k) (λ left. any-block-length left false k unsustained) _ (any-block-length s trigger k unsustained)
+    in-rows (λ left. render left false k) (λ left. any-block-length left false k unsustained) _ (any-block-length s trigger k unsustained)

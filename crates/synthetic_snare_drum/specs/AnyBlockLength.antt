@@ -3,7 +3,7 @@
 use mathlib.Core.Path.{_≡_}
 use mathlib.Core.Bool.{Bool, false}
 use Rattle.refusal.specs.Refusal.{Noisy}
-use Rattle.refusal.specs.Rows.{InTwo, InMany}
+use Rattle.refusal.specs.Rows.{InTwo, InRows}
 use Rattle.synthetic_snare_drum.specs.SyntheticSnareDrum.{render}
 use Rattle.synthetic_snare_drum.specs.declared.SyntheticSnareDrum.{SyntheticSnareDrum}
 use Rattle.synthetic_snare_drum.specs.declared.Knobs.{Knobs}
@@ -13,8 +13,8 @@ AnyBlockLength =
     (s : Noisy SyntheticSnareDrum) (trigger : Bool) (k : Knobs)
     → k .sustain ≡ false → InTwo (render s trigger k) (λ left. render left false k)
 
--- and so in blocks of any lengths, one after the other
+-- and so in rows of blocks of any lengths, however long they are in all
 abbrev pub AnyBlockLengths : Type 0
 AnyBlockLengths =
     (s : Noisy SyntheticSnareDrum) (trigger : Bool) (k : Knobs)
-    → k .sustain ≡ false → InMany (render s trigger k) (λ left. render left false k)
+    → k .sustain ≡ false → InRows (render s trigger k) (λ left. render left false k)

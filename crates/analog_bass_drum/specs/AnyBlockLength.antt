@@ -2,18 +2,13 @@
 -- for every record, whether calls reach it or not. Definitions only.
 use mathlib.Core.Bool.{Bool, false}
 use lib.Ieee.{Float}
-use Rattle.refusal.specs.Rows.{InTwo, InRows}
+use Rattle.refusal.specs.Rows.{Law}
 use Rattle.analog_bass_drum.specs.AnalogBassDrum.{render}
 use Rattle.analog_bass_drum.specs.declared.AnalogBassDrum.{AnalogBassDrum}
 use Rattle.analog_bass_drum.specs.declared.Knobs.{Knobs}
 
-abbrev pub AnyBlockLength : Type 0
-AnyBlockLength =
+-- the theorems are AnyBlockLength InTwo, a block in two, and AnyBlockLength InRows, in any number of blocks
+abbrev pub AnyBlockLength : Law AnalogBassDrum → Type 0
+AnyBlockLength Holds =
     (v : AnalogBassDrum) (trigger : Bool) (accent : Float) (k : Knobs)
-    → InTwo (render v trigger accent k) (λ left. render left false accent k)
-
--- and so in rows of blocks of any lengths, however long they are in all
-abbrev pub AnyBlockLengths : Type 0
-AnyBlockLengths =
-    (v : AnalogBassDrum) (trigger : Bool) (accent : Float) (k : Knobs)
-    → InRows (render v trigger accent k) (λ left. render left false accent k)
+    → Holds (render v trigger accent k) (λ left. render left false accent k)

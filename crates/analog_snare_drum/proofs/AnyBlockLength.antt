@@ -6,13 +6,14 @@ use mathlib.Core.Bool.{false, cond}
 use lib.ListN.{length, length-append}
 use Rattle.block.proofs.Blocks.{samples-add, after-add, after-holds}
 use Rattle.refusal.specs.Refusal.{Noisy, noisy}
+use Rattle.refusal.specs.Rows.{InTwo, InRows}
 use Rattle.refusal.proofs.ByNumber.{shorter}
 use Rattle.refusal.proofs.Rows.{in-rows}
 use Rattle.filter.specs.Svf as Filter
 use Rattle.filter.specs.declared.Svf.{Svf}
 use Rattle.filter.proofs.Tuned.{svf-stays}
 use Rattle.analog_snare_drum.specs.AnalogSnareDrum.{filterOf, settings, triggered, tunedMode, tuned, modeOutput, shellOutput, step, renderRefusal, render}
-use Rattle.analog_snare_drum.specs.AnyBlockLength.{AnyBlockLength, AnyBlockLengths}
+use Rattle.analog_snare_drum.specs.AnyBlockLength.{AnyBlockLength}
 use Rattle.analog_snare_drum.specs.declared.AnalogSnareDrum.{AnalogSnareDrum}
 use Rattle.analog_snare_drum.specs.declared.Settings.{Settings}
 
@@ -39,7 +40,7 @@ stays b s e =
       svf-stays _ _ _ _ (ap (λ (v : AnalogSnareDrum). v .«noise_filter») e),
     )
 
-pub any-block-length : AnyBlockLength
+pub any-block-length : AnyBlockLength InTwo
 unfolding renderRefusal
 any-block-length s trigger accent k a b h =
     let whole = rw length-append at h in
@@ -50,6 +51,6 @@ any-block-length s trigger accent k a b h =
     let again = after-holds (step q) (Tuned q) (stays q) (length a) start (begins q _ (s .noise)) in
     rw (length-append, whole, first, second, again, after-add, samples-add)
 
-pub any-block-lengths : AnyBlockLengths
+pub any-block-lengths : AnyBlockLength InRows
 any-block-lengths s trigger accent k =
     in-rows (λ left. render left false accent k) (λ left. any-block-length left false accent k) _ (any-block-length s trigger accent k)

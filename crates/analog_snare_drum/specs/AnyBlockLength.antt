@@ -3,18 +3,13 @@
 use mathlib.Core.Bool.{Bool, false}
 use lib.Ieee.{Float}
 use Rattle.refusal.specs.Refusal.{Noisy}
-use Rattle.refusal.specs.Rows.{InTwo, InRows}
+use Rattle.refusal.specs.Rows.{Law}
 use Rattle.analog_snare_drum.specs.AnalogSnareDrum.{render}
 use Rattle.analog_snare_drum.specs.declared.AnalogSnareDrum.{AnalogSnareDrum}
 use Rattle.analog_snare_drum.specs.declared.Knobs.{Knobs}
 
-abbrev pub AnyBlockLength : Type 0
-AnyBlockLength =
+-- the theorems are AnyBlockLength InTwo, a block in two, and AnyBlockLength InRows, in any number of blocks
+abbrev pub AnyBlockLength : Law (Noisy AnalogSnareDrum) → Type 0
+AnyBlockLength Holds =
     (s : Noisy AnalogSnareDrum) (trigger : Bool) (accent : Float) (k : Knobs)
-    → InTwo (render s trigger accent k) (λ left. render left false accent k)
-
--- and so in rows of blocks of any lengths, however long they are in all
-abbrev pub AnyBlockLengths : Type 0
-AnyBlockLengths =
-    (s : Noisy AnalogSnareDrum) (trigger : Bool) (accent : Float) (k : Knobs)
-    → InRows (render s trigger accent k) (λ left. render left false accent k)
+    → Holds (render s trigger accent k) (λ left. render left false accent k)

@@ -10,13 +10,14 @@ use lib.Ieee.{Float}
 use Rattle.block.specs.Block.{Passed, scanned, pass, setting}
 use Rattle.block.proofs.Blocks.{any-lengths, scan-append, scanned-append, scanned-holds}
 use Rattle.refusal.specs.Refusal.{Noisy, noisy}
+use Rattle.refusal.specs.Rows.{InTwo, InRows}
 use Rattle.refusal.proofs.ByNumber.{shorter-at-rate}
 use Rattle.refusal.proofs.Rows.{in-rows}
 use Rattle.filter.specs.Svf as Svf
 use Rattle.filter.proofs.Tuned.{svf-stays}
 use Rattle.hihat.specs.Hihat.{settings, triggered, metallic, setColoration, colored, clocked, decay, amplified, setHpf, highPassed, voiced, passes, renderRefusal, render}
 use Rattle.hihat.specs.OnePass.{tuned, step}
-use Rattle.hihat.specs.AnyBlockLength.{AnyBlockLength, AnyBlockLengths, AnyNoiseLength}
+use Rattle.hihat.specs.AnyBlockLength.{AnyBlockLength, AnyNoiseLength}
 use Rattle.hihat.specs.declared.Hihat.{Hihat}
 use Rattle.hihat.specs.declared.Knobs.{Knobs}
 use Rattle.hihat.specs.declared.Settings.{Settings}
@@ -58,7 +59,7 @@ stays b hz s x t = record {
   rate = t .rate;
 }
 
-pub any-block-length : AnyBlockLength
+pub any-block-length : AnyBlockLength InTwo
 unfolding renderRefusal
 any-block-length s trigger kind k unsustained a b h =
     let v = s .voice in
@@ -81,7 +82,7 @@ any-block-length s trigger kind k unsustained a b h =
       scanned-append,
     )
 
-pub any-block-lengths : AnyBlockLengths
+pub any-block-lengths : AnyBlockLength InRows
 any-block-lengths s trigger kind k unsustained =
     in-rows (λ left. render left false kind k) (λ left. any-block-length left false kind k unsustained) _ (any-block-length s trigger kind k unsustained)
 

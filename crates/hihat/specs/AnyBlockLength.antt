@@ -5,23 +5,18 @@ use mathlib.Core.Bool.{Bool, false}
 use lib.Ieee.{Float}
 use Rattle.block.specs.AnyLengths.{AnyLengths}
 use Rattle.refusal.specs.Refusal.{Noisy}
-use Rattle.refusal.specs.Rows.{InTwo, InRows}
+use Rattle.refusal.specs.Rows.{Law}
 use Rattle.hihat.specs.SquareNoise as SquareNoise
 use Rattle.hihat.specs.Hihat.{render}
 use Rattle.hihat.specs.declared.Hihat.{Hihat}
 use Rattle.hihat.specs.declared.Knobs.{Knobs}
 use Rattle.hihat.specs.declared.VcaType.{VcaType}
 
-abbrev pub AnyBlockLength : Type 0
-AnyBlockLength =
+-- the theorems are AnyBlockLength InTwo, a block in two, and AnyBlockLength InRows, in any number of blocks
+abbrev pub AnyBlockLength : Law (Noisy Hihat) → Type 0
+AnyBlockLength Holds =
     (s : Noisy Hihat) (trigger : Bool) («vca_type» : VcaType) (k : Knobs)
-    → k .sustain ≡ false → InTwo (render s trigger «vca_type» k) (λ left. render left false «vca_type» k)
-
--- and so in rows of blocks of any lengths, however long they are in all
-abbrev pub AnyBlockLengths : Type 0
-AnyBlockLengths =
-    (s : Noisy Hihat) (trigger : Bool) («vca_type» : VcaType) (k : Knobs)
-    → k .sustain ≡ false → InRows (render s trigger «vca_type» k) (λ left. render left false «vca_type» k)
+    → k .sustain ≡ false → Holds (render s trigger «vca_type» k) (λ left. render left false «vca_type» k)
 
 -- the square noise by itself, which refuses nothing: at every f0, a NaN too. A buffer filled by this turn is what its render promises
 abbrev pub AnyNoiseLength : Type 0

@@ -18,8 +18,12 @@ unfoldable pub row : {State : Type 0} → (State → List Float → Call State) 
 row next first [] = first
 row next first (out ∷ outs) = both first (row next (next (first .state) out) outs)
 
+-- what may hold of a call and of those after it: `first` is the call by its buffer, `next` one after it by the state that is left and its own buffer
+abbrev pub Law : Type 0 → Type 1
+Law State = (List Float → Call State) → (State → List Float → Call State) → Type 0
+
 -- where `first` accepts a buffer, it gives what it gives over a part of that buffer and then `next` over the rest
-abbrev pub InTwo : {State : Type 0} → (List Float → Call State) → (State → List Float → Call State) → Type 0
+abbrev pub InTwo : {State : Type 0} → Law State
 InTwo first next = (a b : List Float) → first (a ++ b) .number ≡ 0 → first (a ++ b) ≡ both (first a) (next (first a .state) b)
 
 -- any number of parts: where `first` accepts a buffer, it gives what a row of calls over its parts gives; and two rows over one buffer, of any length, whose

@@ -9,13 +9,14 @@ use lib.Ieee.{Float}
 use Rattle.block.specs.Block.{after}
 use Rattle.block.proofs.Blocks.{samples-add, after-add, after-holds}
 use Rattle.refusal.specs.Refusal.{Noisy, noisy}
+use Rattle.refusal.specs.Rows.{InTwo, InRows}
 use Rattle.refusal.proofs.ByNumber.{shorter-at-rate}
 use Rattle.refusal.proofs.Rows.{in-rows}
 use Rattle.filter.specs.OnePole as OnePole
 use Rattle.filter.specs.Svf as Svf
 use Rattle.filter.proofs.Tuned.{svf-stays, one-pole-stays}
 use Rattle.synthetic_snare_drum.specs.SyntheticSnareDrum.{settings, tuned, triggered, step, renderRefusal, render}
-use Rattle.synthetic_snare_drum.specs.AnyBlockLength.{AnyBlockLength, AnyBlockLengths}
+use Rattle.synthetic_snare_drum.specs.AnyBlockLength.{AnyBlockLength}
 use Rattle.synthetic_snare_drum.specs.declared.SyntheticSnareDrum.{SyntheticSnareDrum}
 use Rattle.synthetic_snare_drum.specs.declared.Knobs.{Knobs}
 use Rattle.synthetic_snare_drum.specs.declared.Settings.{Settings}
@@ -55,7 +56,7 @@ unfolding tuned triggered OnePole.setF Svf.setGQ Svf.setGR
 begins b s true k = record { again = refl; rate = refl }
 begins b s false k = record { again = refl; rate = refl }
 
-pub any-block-length : AnyBlockLength
+pub any-block-length : AnyBlockLength InTwo
 unfolding renderRefusal
 any-block-length s trigger k unsustained a b h =
     let v = s .voice in
@@ -81,6 +82,6 @@ any-block-length s trigger k unsustained a b h =
       samples-add,
     )
 
-pub any-block-lengths : AnyBlockLengths
+pub any-block-lengths : AnyBlockLength InRows
 any-block-lengths s trigger k unsustained =
     in-rows (λ left. render left false k) (λ left. any-block-length left false k unsustained) _ (any-block-length s trigger k unsustained)

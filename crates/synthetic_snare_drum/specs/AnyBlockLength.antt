@@ -3,18 +3,13 @@
 use mathlib.Core.Path.{_≡_}
 use mathlib.Core.Bool.{Bool, false}
 use Rattle.refusal.specs.Refusal.{Noisy}
-use Rattle.refusal.specs.Rows.{InTwo, InRows}
+use Rattle.refusal.specs.Rows.{Law}
 use Rattle.synthetic_snare_drum.specs.SyntheticSnareDrum.{render}
 use Rattle.synthetic_snare_drum.specs.declared.SyntheticSnareDrum.{SyntheticSnareDrum}
 use Rattle.synthetic_snare_drum.specs.declared.Knobs.{Knobs}
 
-abbrev pub AnyBlockLength : Type 0
-AnyBlockLength =
+-- the theorems are AnyBlockLength InTwo, a block in two, and AnyBlockLength InRows, in any number of blocks
+abbrev pub AnyBlockLength : Law (Noisy SyntheticSnareDrum) → Type 0
+AnyBlockLength Holds =
     (s : Noisy SyntheticSnareDrum) (trigger : Bool) (k : Knobs)
-    → k .sustain ≡ false → InTwo (render s trigger k) (λ left. render left false k)
-
--- and so in rows of blocks of any lengths, however long they are in all
-abbrev pub AnyBlockLengths : Type 0
-AnyBlockLengths =
-    (s : Noisy SyntheticSnareDrum) (trigger : Bool) (k : Knobs)
-    → k .sustain ≡ false → InRows (render s trigger k) (λ left. render left false k)
+    → k .sustain ≡ false → Holds (render s trigger k) (λ left. render left false k)

@@ -37,10 +37,10 @@
 // sheets start from 33.
 //
 // BLOCKS
-// How a sound is cut into blocks cannot be heard. Where nothing sustains, no block but the first is triggered and the knobs stay, any two ways
-// to cut it into accepted blocks give the same samples and leave the same record and noise state, bit for bit; and the parts of an accepted
-// block are accepted. This is proved. A block may have 0 samples, and may still change the record. A sustained block is excepted: its gain
-// slides over the block's own length.
+// The lengths of the blocks do not change the sound. Where nothing sustains, no block but the first is triggered and the knobs stay, any
+// two ways to cut a sound into accepted blocks give the same samples and leave the same record and noise state, bit for bit; and the parts
+// of an accepted block are accepted. This is proved. A block may have 0 samples, and may still change the record. A sustained block is
+// excepted: its gain slides over the block's own length.
 //
 // POINTERS
 // A buffer crosses as a pointer to its first place and the number of its places. The pointer is not null, also where the number is 0.

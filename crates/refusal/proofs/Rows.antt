@@ -20,6 +20,15 @@ numbers-assoc (suc m) n o = refl
 both-assoc : {State : Type 0} (x y z : Call State) → both (both x y) z ≡ both x (both y z)
 both-assoc x y z = rw (numbers-assoc (x .number) (y .number) (z .number), append-assoc)
 
+-- ---- a buffer cut into single samples
+abbrev singles : List Float → List (List Float)
+singles xs = map (λ (x : Float). x ∷ []) xs
+
+flatten-singles : (xs : List Float) → flatten (singles xs) ≡ xs
+unfolding flatten
+flatten-singles [] = refl
+flatten-singles (x ∷ xs) = ap (λ (l : List Float). x ∷ l) (flatten-singles xs)
+
 module _ {State : Type 0} (next : State → List Float → Call State) where
   -- ---- a row begun with two calls, and a row after a row
   row-both : (x y : Call State) (outs : List (List Float)) → row next (both x y) outs ≡ both x (row next y outs)
@@ -45,14 +54,6 @@ module _ {State : Type 0} (next : State → List Float → Call State) where
         cut ∙ ap (both (first a)) (whole (next s) (goes-on s) out outs second)
 
     -- ---- every row is the row of single samples
-    abbrev singles : List Float → List (List Float)
-    singles xs = map (λ (x : Float). x ∷ []) xs
-
-    flatten-singles : (xs : List Float) → flatten (singles xs) ≡ xs
-    unfolding flatten
-    flatten-singles [] = refl
-    flatten-singles (x ∷ xs) = ap (λ (l : List Float). x ∷ l) (flatten-singles xs)
-
     call-finest : (first : List Float → Call State) → InTwo first next → (a : List Float) → first a .number ≡ 0 → first a ≡ row next (first []) (singles a)
     call-finest first two a h = rw flatten-singles at (whole first two [] (singles a) (rw flatten-singles h))
 

@@ -58,14 +58,16 @@ knobs-of f = go (eqb (f .voice) (code "b")) (eqb (f .voice) (code "s")) (eqb (f 
     go false false true k = k
     go false false false k = k
 
--- ---- a line that stands for a cue has passed every question
-pub record Passed (length cues leastStart : ℕ) (s : Strike) : Type 0 where
+-- ---- a line that stands for a cue has passed every question, and says what its fields say
+pub record Passed (length cues leastStart : ℕ) (line : List ℕ) (s : Strike) : Type 0 where
   pub few : cues < 64
+  pub formed : readFields line .formed ≡ true
+  pub read : s ≡ record { start = readFields line .start; cue = cueOf (readFields line) }
   pub inside : s .start < length
   pub least : leastStart ≤ s .start
   pub knobs : KnobsOf (s .cue)
 
-pub cue-passed : (length cues leastStart : ℕ) (line : List ℕ) {s : Strike} → readCue length cues leastStart line ≡ says s → Passed length cues leastStart s
+pub cue-passed : (length cues leastStart : ℕ) (line : List ℕ) {s : Strike} → readCue length cues leastStart line ≡ says s → Passed length cues leastStart line s
 unfolding readCue
 cue-passed length cues leastStart line {s} h =
     let f = readFields line in
@@ -81,6 +83,8 @@ cue-passed length cues leastStart line {s} h =
     let same : record { start = f .start; cue = cueOf f } ≡ s = cc (c .1) in
     rw (← same) record {
       few = ltb-true cues 64 (few .0);
+      formed = formed .0;
+      read = refl;
       inside = ltb-true (f .start) length (inside .0);
       least = leb-true leastStart (f .start) (least .0);
       knobs =

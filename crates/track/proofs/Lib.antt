@@ -1,0 +1,4 @@
+-- The laws of `track`.
+pub mod Mixed
+pub mod Laws
+pub mod Alone

@@ -7,7 +7,7 @@ use lib.ListN.{length}
 use lib.Ieee.{Float}
 use Rattle.block.specs.Block.{Passed}
 use Rattle.block.proofs.Blocks.{scanned-keeps}
-use Rattle.refusal.specs.Refusal.{Noisy, noisy, unlessRefused}
+use Rattle.refusal.specs.Refusal.{unlessRefused}
 use Rattle.hihat.specs.declared.Hihat.{Hihat}
 use Rattle.hihat.specs.declared.Knobs.{Knobs}
 use Rattle.hihat.specs.declared.Settings.{Settings}
@@ -16,18 +16,18 @@ use Rattle.hihat.specs.Hihat as spec
 use Rattle.hihat.specs.OnePass.{step}
 use Rattle.hihat.proofs.OnePass.{five-passes}
 
-passes-keep : (b : Settings) (p : Passed (Noisy Hihat)) → spec.passes b p .state .voice .«sample_rate» ≡ p .state .voice .«sample_rate»
+passes-keep : (b : Settings) (p : Passed Hihat) → spec.passes b p .state .«sample_rate» ≡ p .state .«sample_rate»
 unfolding step spec.metallic spec.setColoration spec.colored spec.clocked spec.amplified spec.setHpf spec.highPassed
-passes-keep b p = rw (five-passes b p, scanned-keeps (step b) (λ s. s .voice .«sample_rate») (λ s x. refl))
+passes-keep b p = rw (five-passes b p, scanned-keeps (step b) (λ v. v .«sample_rate») (λ v x. refl))
 
-kept : (s : Noisy Hihat) (k : Knobs) (b : Settings) (out : List Float) (n : ℕ) (t : Bool)
-    → unlessRefused n (spec.passes b (record { state = noisy (cond t (spec.triggered (s .voice) k) (s .voice)) (s .noise); out = out }) .state) s
-    .voice .«sample_rate» ≡ s .voice .«sample_rate»
+kept : (v : Hihat) (k : Knobs) (b : Settings) (out : List Float) (n : ℕ) (t : Bool)
+    → unlessRefused n (spec.passes b (record { state = cond t (spec.triggered v k) v; out = out }) .state) v .«sample_rate»
+    ≡ v .«sample_rate»
 unfolding spec.triggered
-kept s k b out zero true = passes-keep b _
-kept s k b out zero false = passes-keep b _
-kept s k b out (suc n) t = refl
+kept v k b out zero true = passes-keep b _
+kept v k b out zero false = passes-keep b _
+kept v k b out (suc n) t = refl
 
-pub rate-kept : (s : Noisy Hihat) (trigger : Bool) (kind : VcaType) (k : Knobs) (out : List Float)
-    → spec.render s trigger kind k out .state .voice .«sample_rate» ≡ s .voice .«sample_rate»
-rate-kept s trigger kind k out = kept s k _ out (spec.renderRefusal (s .voice .«sample_rate») k (length out)) trigger
+pub rate-kept : (v : Hihat) (trigger : Bool) (kind : VcaType) (k : Knobs) (out : List Float)
+    → spec.render v trigger kind k out .state .«sample_rate» ≡ v .«sample_rate»
+rate-kept v trigger kind k out = kept v k _ out (spec.renderRefusal (v .«sample_rate») k (length out)) trigger

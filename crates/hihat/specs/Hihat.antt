@@ -7,7 +7,7 @@ use lib.Ieee.{Float, neg, le, lt}
 use Rattle.ieee754.specs.Single.{_⊕_, _⊖_, _⊗_, _⊘_, decimal}
 use Rattle.ieee754.specs.Operations.{abs, clamp}
 use Rattle.block.specs.Block.{Turn, Passed, filled, pass, setting}
-use Rattle.refusal.specs.Refusal.{Noisy, noisy, Call, call, ask, isSampleRate, isBlockLength, isFrequency, isUnit}
+use Rattle.refusal.specs.Refusal.{Call, call, ask, isSampleRate, isBlockLength, isFrequency, isUnit}
 use Rattle.units.specs.Units.{ratio}
 use Rattle.random.specs.Random.{getFloat}
 use Rattle.parameter_interpolator.specs.ParameterInterpolator as ParameterInterpolator
@@ -25,9 +25,9 @@ use Rattle.hihat.specs.SquareNoise as SquareNoise
 
 -- ---- init
 
--- the voice of this rate and with these filters, every other field zero
-abbrev pub silent : Float → Filter → Filter → Hihat
-silent «sample_rate» «noise_coloration_svf» hpf =
+-- the voice of this rate, with these filters and this noise state, every other field zero
+abbrev pub silent : Float → Filter → Filter → ℕ → Hihat
+silent «sample_rate» «noise_coloration_svf» hpf noise =
     record {
       «sample_rate» = «sample_rate»;
       envelope = decimal 0 0;
@@ -37,13 +37,15 @@ silent «sample_rate» «noise_coloration_svf» hpf =
       «square_noise» = SquareNoise.init;
       «noise_coloration_svf» = «noise_coloration_svf»;
       hpf = hpf;
+      noise = noise;
     }
 
 unfoldable pub ZERO : Hihat
-ZERO = silent (decimal 0 0) Svf.ZERO Svf.ZERO
+ZERO = silent (decimal 0 0) Svf.ZERO Svf.ZERO 0
 
+-- the noise state is that of `static RNG_STATE: AtomicU32 = AtomicU32::new(0x21);`, now one for each voice
 unfoldable pub initialized : Hihat → Float → Hihat
-initialized self «sample_rate» = silent «sample_rate» (Svf.init (self .«noise_coloration_svf»)) (Svf.init (self .hpf))
+initialized self «sample_rate» = silent «sample_rate» (Svf.init (self .«noise_coloration_svf»)) (Svf.init (self .hpf)) 33
 
 abbrev pub init : Hihat → Float → Call Hihat
 init self «sample_rate» = call (ask (isSampleRate «sample_rate») 1 0) (initialized self «sample_rate») [] self []
@@ -72,18 +74,33 @@ settings self «vca_type» k samples =
       «two_stage_envelope» = k .«two_stage_envelope»;
     }
 
--- the voice with other numbers, and with other parts: each statement changes its own
-abbrev pub numbers : Hihat → Float → Float → Float → Float → Hihat
-numbers self envelope «noise_clock» «noise_sample» «sustain_gain» =
+-- the voice with other gains, with other clocked noise, and with other parts: each statement changes its own
+abbrev pub gains : Hihat → Float → Float → Hihat
+gains self envelope «sustain_gain» =
     record {
       «sample_rate» = self .«sample_rate»;
       envelope = envelope;
-      «noise_clock» = «noise_clock»;
-      «noise_sample» = «noise_sample»;
+      «noise_clock» = self .«noise_clock»;
+      «noise_sample» = self .«noise_sample»;
       «sustain_gain» = «sustain_gain»;
       «square_noise» = self .«square_noise»;
       «noise_coloration_svf» = self .«noise_coloration_svf»;
       hpf = self .hpf;
+      noise = self .noise;
+    }
+
+abbrev pub noises : Hihat → Float → Float → ℕ → Hihat
+noises self «noise_clock» «noise_sample» noise =
+    record {
+      «sample_rate» = self .«sample_rate»;
+      envelope = self .envelope;
+      «noise_clock» = «noise_clock»;
+      «noise_sample» = «noise_sample»;
+      «sustain_gain» = self .«sustain_gain»;
+      «square_noise» = self .«square_noise»;
+      «noise_coloration_svf» = self .«noise_coloration_svf»;
+      hpf = self .hpf;
+      noise = noise;
     }
 
 abbrev pub parts : Hihat → Squares → Filter → Filter → Hihat
@@ -97,42 +114,40 @@ parts self «square_noise» «noise_coloration_svf» hpf =
       «square_noise» = «square_noise»;
       «noise_coloration_svf» = «noise_coloration_svf»;
       hpf = hpf;
+      noise = self .noise;
     }
 
 unfoldable pub triggered : Hihat → Knobs → Hihat
 triggered self k =
     let envelope = (decimal 15 1 ⊕ decimal 5 1 ⊗ (decimal 1 0 ⊖ k .decay)) ⊗ (decimal 3 1 ⊕ decimal 7 1 ⊗ k .accent) in
-    numbers self envelope (self .«noise_clock») (self .«noise_sample») (self .«sustain_gain»)
+    gains self envelope (self .«sustain_gain»)
 
 -- ---- the passes over the block, each by a sample: b is what stays the same
 
-unfoldable pub metallic : Settings → Noisy Hihat → Turn (Noisy Hihat)
-metallic b s =
-    let self = s .voice in
+unfoldable pub metallic : Settings → Hihat → Turn Hihat
+metallic b self =
     let square = SquareNoise.turn (b .increment) (self .«square_noise») in
-    record { sample = square .sample; next = noisy (parts self (square .next) (self .«noise_coloration_svf») (self .hpf)) (s .noise) }
+    record { sample = square .sample; next = parts self (square .next) (self .«noise_coloration_svf») (self .hpf) }
 
 unfoldable pub setColoration : Settings → Hihat → Hihat
 setColoration b self =
     parts self (self .«square_noise») (Svf.setFQ (self .«noise_coloration_svf») (b .cutoff) (b .q) Accurate) (self .hpf)
 
-unfoldable pub colored : Noisy Hihat → Float → Turn (Noisy Hihat)
-colored s out =
-    let self = s .voice in
+unfoldable pub colored : Hihat → Float → Turn Hihat
+colored self out =
     let o = Svf.process (self .«noise_coloration_svf») out BandPass in
-    record { sample = o .out; next = noisy (parts self (self .«square_noise») (o .filter) (self .hpf)) (s .noise) }
+    record { sample = o .out; next = parts self (self .«square_noise») (o .filter) (self .hpf) }
 
-unfoldable pub clocked : Settings → Noisy Hihat → Float → Turn (Noisy Hihat)
-clocked b s out =
-    let self = s .voice in
+unfoldable pub clocked : Settings → Hihat → Float → Turn Hihat
+clocked b self out =
     let clock = self .«noise_clock» ⊕ b .«noise_f» in
     -- `if self.noise_clock >= 1.0 {`
     let ticks = le (decimal 1 0) clock in
     let «noise_clock» = cond ticks (clock ⊖ decimal 1 0) clock in
-    let draw = getFloat (s .noise) in
+    let draw = getFloat (self .noise) in
     let «noise_sample» = cond ticks (draw .value ⊖ decimal 5 1) (self .«noise_sample») in
-    let voice = numbers self (self .envelope) «noise_clock» «noise_sample» (self .«sustain_gain») in
-    record { sample = out ⊕ b .noisiness ⊗ («noise_sample» ⊖ out); next = noisy voice (cond ticks (draw .word) (s .noise)) }
+    let noise = cond ticks (draw .word) (self .noise) in
+    record { sample = out ⊕ b .noisiness ⊗ («noise_sample» ⊖ out); next = noises self «noise_clock» «noise_sample» noise }
 
 -- `if self.envelope > 0.5 || !two_stage_envelope {`
 unfoldable pub decay : Settings → Float → Float
@@ -155,42 +170,35 @@ amplify Swing s gain = swingVca s gain
 amplify Linear s gain = linearVca s gain
 
 -- `sustain_gain.next()` in a sustained block only; what it returns is what the interpolator stores at the end
-unfoldable pub amplified : Settings → Noisy Hihat → Float → Turn (Noisy Hihat)
-amplified b s out =
-    let self = s .voice in
+unfoldable pub amplified : Settings → Hihat → Float → Turn Hihat
+amplified b self out =
     let envelope = self .envelope ⊗ decay b (self .envelope) in
     let next = ParameterInterpolator.next (record { value = self .«sustain_gain»; increment = b .«gain_increment» }) in
     let «sustain_gain» = cond (b .sustain) (next .value) (self .«sustain_gain») in
     let gain = cond (b .sustain) «sustain_gain» envelope in
-    let voice = numbers self envelope (self .«noise_clock») (self .«noise_sample») «sustain_gain» in
-    record { sample = amplify (b .«vca_type») out gain; next = noisy voice (s .noise) }
+    record { sample = amplify (b .«vca_type») out gain; next = gains self envelope «sustain_gain» }
 
 unfoldable pub setHpf : Settings → Hihat → Hihat
 setHpf b self = parts self (self .«square_noise») (self .«noise_coloration_svf») (Svf.setFQ (self .hpf) (b .cutoff) (decimal 5 1) Accurate)
 
-unfoldable pub highPassed : Noisy Hihat → Float → Turn (Noisy Hihat)
-highPassed s out =
-    let self = s .voice in
+unfoldable pub highPassed : Hihat → Float → Turn Hihat
+highPassed self out =
     let o = Svf.process (self .hpf) out HighPass in
-    record { sample = o .out; next = noisy (parts self (self .«square_noise») (self .«noise_coloration_svf») (o .filter)) (s .noise) }
+    record { sample = o .out; next = parts self (self .«square_noise») (self .«noise_coloration_svf») (o .filter) }
 
--- a statement that changes the voice alone
-abbrev pub voiced : (Hihat → Hihat) → Noisy Hihat → Noisy Hihat
-voiced set s = noisy (set (s .voice)) (s .noise)
-
-unfoldable pub passes : Settings → Passed (Noisy Hihat) → Passed (Noisy Hihat)
+unfoldable pub passes : Settings → Passed Hihat → Passed Hihat
 passes b p =
     -- Render the metallic noise.
     let p₁ = filled (metallic b) p in
     -- Apply BPF on the metallic noise. `out.copy_from_slice(temp_1);`: in place.
-    let p₂ = pass colored (setting (voiced (setColoration b)) p₁) in
+    let p₂ = pass colored (setting (setColoration b) p₁) in
     -- This is not at all part of the 808 circuit! But to add more variety, we add a variable amount of clocked noise to the output of the
     -- 6 schmitt trigger oscillators.
     let p₃ = pass (clocked b) p₂ in
     -- Apply VCA.
     let p₄ = pass (amplified b) p₃ in
     -- `self.hpf.process_buffer(out, temp_1, FilterMode::HighPass);`
-    pass highPassed (setting (voiced (setHpf b)) p₄)
+    pass highPassed (setting (setHpf b) p₄)
 
 -- ---- render: the call
 
@@ -205,11 +213,10 @@ renderRefusal «sample_rate» k samples =
     (ask (isUnit (k .decay)) 5
     (ask (isUnit (k .noisiness)) 5 0))))))
 
-abbrev pub render : Noisy Hihat → Bool → VcaType → Knobs → List Float → Call (Noisy Hihat)
-render s trigger «vca_type» k out =
-    let self = s .voice in
+abbrev pub render : Hihat → Bool → VcaType → Knobs → List Float → Call Hihat
+render self trigger «vca_type» k out =
     let b = settings self «vca_type» k (length out) in
     -- `if trigger {`
-    let begun = noisy (cond trigger (triggered self k) self) (s .noise) in
+    let begun = cond trigger (triggered self k) self in
     let p = passes b (record { state = begun; out = out }) in
-    call (renderRefusal (self .«sample_rate») k (length out)) (p .state) (p .out) s out
+    call (renderRefusal (self .«sample_rate») k (length out)) (p .state) (p .out) self out

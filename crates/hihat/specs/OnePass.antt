@@ -2,7 +2,6 @@
 use lib.Ieee.{Float}
 use Rattle.block.specs.Block.{Turn, source}
 use Rattle.block.specs.OnePass.{then}
-use Rattle.refusal.specs.Refusal.{Noisy, noisy}
 use Rattle.hihat.specs.declared.Hihat.{Hihat}
 use Rattle.hihat.specs.declared.Settings.{Settings}
 use Rattle.hihat.specs.declared.turn.Turn.{Turn as Sample}
@@ -13,12 +12,9 @@ abbrev pub tuned : Settings → Hihat → Hihat
 tuned b self = setHpf b (setColoration b self)
 
 -- the first pass is a source, so what stands in the buffer is not read
-unfoldable pub step : Settings → Noisy Hihat → Float → Turn (Noisy Hihat)
+unfoldable pub step : Settings → Hihat → Float → Turn Hihat
 step b = then (then (then (then (source (metallic b)) colored) (clocked b)) (amplified b)) highPassed
 
 -- a turn of the code, as the definitions have it
-abbrev pub behind : Sample → Noisy Hihat
-behind t = noisy (t .voice) (t .noise)
-
-abbrev pub turned : Sample → Turn (Noisy Hihat)
-turned t = record { sample = t .sample; next = behind t }
+abbrev pub turned : Sample → Turn Hihat
+turned t = record { sample = t .sample; next = t .voice }

@@ -8,7 +8,7 @@ ghost use mathlib.Core.Path.{_≡_};
 ghost use mathlib.Core.Bool.{cond};
 ghost use Prim.Native.Nat.{_≤_};
 ghost use lib.Ieee.{Float};
-ghost use Rattle.refusal.specs.Refusal.{answerNumber, noisy};
+ghost use Rattle.refusal.specs.Refusal.{answerNumber};
 ghost use Rattle.block.specs.Block.{scan, scanned};
 ghost use Rattle.ieee754.specs.Single.{_⊕_, _⊗_, decimal};
 ghost use Rattle.hihat.specs.Hihat as spec;
@@ -35,6 +35,7 @@ pub struct Hihat {
     pub square_noise: SquareNoise,
     pub noise_coloration_svf: Svf,
     pub hpf: Svf,
+    pub noise: u32,
 }
 
 // The parameters of `render`, but for the trigger and the kind of the VCA.
@@ -50,17 +51,10 @@ pub struct Knobs {
     pub two_stage_envelope: bool,
 }
 
-// What `init` answers, and the voice after it.
+// What a call answers, and the voice after it.
 pub struct Answered {
     pub answer: Answer,
     pub voice: Hihat,
-}
-
-// What `render` answers, and the voice and the noise state after it.
-pub struct Rendered {
-    pub answer: Answer,
-    pub voice: Hihat,
-    pub noise: u32,
 }
 
 // What stays the same over a block.
@@ -89,6 +83,7 @@ impl Hihat {
         square_noise: SquareNoise::ZERO,
         noise_coloration_svf: Svf::ZERO,
         hpf: Svf::ZERO,
+        noise: 0,
     };
 
     pub fn init(self, sample_rate: f32) -> Answered
@@ -108,6 +103,7 @@ impl Hihat {
         }
     }
 
+    // The noise state is the one that the Rust's begins with, 0x21.
     fn initialized(self, sample_rate: f32) -> Self
         ensures { λ r. ⌜ r ≡ spec.initialized self «sample_rate» ⌝ }
     {
@@ -119,35 +115,28 @@ impl Hihat {
             square_noise,
             noise_coloration_svf,
             hpf,
+            noise: 33,
             ..Hihat::ZERO
         }
     }
 
-    pub fn render(
-        self,
-        noise: u32,
-        trigger: bool,
-        vca_type: VcaType,
-        knobs: Knobs,
-        out: &mut [f32],
-    ) -> Rendered
-        ensures number { λ r. ⌜ answerNumber (r .answer) ≡ render (noisy self noise) trigger «vca_type» knobs (now (out .entry)) .number ⌝ }
-        ensures voice { λ r. ⌜ r .voice ≡ render (noisy self noise) trigger «vca_type» knobs (now (out .entry)) .state .voice ⌝ }
-        ensures noise { λ r. ⌜ r .noise ≡ render (noisy self noise) trigger «vca_type» knobs (now (out .entry)) .state .noise ⌝ }
-        ensures out { λ _. ⌜ now (out .exit) ≡ render (noisy self noise) trigger «vca_type» knobs (now (out .entry)) .out ⌝ }
+    pub fn render(self, trigger: bool, vca_type: VcaType, knobs: Knobs, out: &mut [f32]) -> Answered
+        ensures number { λ r. ⌜ answerNumber (r .answer) ≡ render self trigger «vca_type» knobs (now (out .entry)) .number ⌝ }
+        ensures voice { λ r. ⌜ r .voice ≡ render self trigger «vca_type» knobs (now (out .entry)) .state ⌝ }
+        ensures out { λ _. ⌜ now (out .exit) ≡ render self trigger «vca_type» knobs (now (out .entry)) .out ⌝ }
     {
         let answer = knobs.asked(self.sample_rate, out.len());
         match answer {
-            Answer::Refused(_) => Rendered {
+            Answer::Refused(_) => Answered {
                 answer,
                 voice: self,
-                noise,
             },
             Answer::Accepted => {
                 let settings = knobs.settings(self, vca_type, out.len());
-                self.triggered(trigger, knobs)
+                let voice = self.triggered(trigger, knobs)
                     .tuned(settings)
-                    .run(noise, settings, out)
+                    .run(settings, out);
+                Answered { answer, voice }
             }
         }
     }
@@ -183,35 +172,27 @@ impl Hihat {
         }
     }
 
-    // The loop over the block of an accepted call.
-    fn run(self, noise: u32, settings: Settings, out: &mut [f32]) -> Rendered
-        ensures number { λ r. ⌜ answerNumber (r .answer) ≡ 0 ⌝ }
-        ensures voice { λ r. ⌜ r .voice ≡ scanned (step settings) (noisy self noise) (now (out .entry)) .voice ⌝ }
-        ensures noise { λ r. ⌜ r .noise ≡ scanned (step settings) (noisy self noise) (now (out .entry)) .noise ⌝ }
-        ensures out { λ _. ⌜ now (out .exit) ≡ scan (step settings) (noisy self noise) (now (out .entry)) ⌝ }
+    // The loop over the block.
+    fn run(self, settings: Settings, out: &mut [f32]) -> Self
+        ensures voice { λ r. ⌜ r ≡ scanned (step settings) self (now (out .entry)) ⌝ }
+        ensures out { λ _. ⌜ now (out .exit) ≡ scan (step settings) self (now (out .entry)) ⌝ }
     {
         let mut voice = self;
-        let mut word = noise;
         let mut i = 0;
         while i < out.len() {
-            let t = voice.step(word, settings);
+            let t = voice.step(settings);
             voice = t.voice;
-            word = t.noise;
             out[i] = t.sample;
             i += 1;
         }
-        Rendered {
-            answer: Answer::Accepted,
-            voice,
-            noise: word,
-        }
+        voice
     }
 
     // One sample, through all the passes.
-    fn step(self, noise: u32, settings: Settings) -> Turn
-        ensures { λ r. ⌜ ((x : Float) → turned r ≡ step settings (noisy self noise) x) ⌝ }
+    fn step(self, settings: Settings) -> Turn
+        ensures { λ r. ⌜ ((x : Float) → turned r ≡ step settings self x) ⌝ }
     {
-        self.metallic(noise, settings)
+        self.metallic(settings)
             .colored()
             .clocked(settings)
             .amplified(settings)
@@ -219,8 +200,8 @@ impl Hihat {
     }
 
     // Render the metallic noise.
-    fn metallic(self, noise: u32, settings: Settings) -> Turn
-        ensures { λ r. ⌜ turned r ≡ spec.metallic settings (noisy self noise) ⌝ }
+    fn metallic(self, settings: Settings) -> Turn
+        ensures { λ r. ⌜ turned r ≡ spec.metallic settings self ⌝ }
     {
         let increment = settings.increment;
         let square_noise = self.square_noise.advanced(increment);
@@ -229,7 +210,6 @@ impl Hihat {
                 square_noise,
                 ..self
             },
-            noise,
             sample: square_noise.level(),
         }
     }

@@ -1,23 +1,22 @@
 // One sample through the passes of `Hihat::render`, past the metallic noise.
 ghost use mathlib.Core.Path.{_≡_};
 ghost use Rattle.hihat.specs.Hihat as spec;
-ghost use Rattle.hihat.specs.OnePass.{behind, turned};
+ghost use Rattle.hihat.specs.OnePass.{turned};
 use crate::Hihat;
 use crate::Settings;
 use crate::VcaType;
 use filter::FilterMode;
 
-// A sample on its way through the passes, with the voice and the noise state.
+// A sample on its way through the passes, with the voice.
 pub struct Turn {
     pub voice: Hihat,
-    pub noise: u32,
     pub sample: f32,
 }
 
 impl Turn {
     // Apply BPF on the metallic noise.
     pub(crate) fn colored(self) -> Self
-        ensures { λ r. ⌜ turned r ≡ spec.colored (behind self) (self .sample) ⌝ }
+        ensures { λ r. ⌜ turned r ≡ spec.colored (self .voice) (self .sample) ⌝ }
     {
         let v = self.voice;
         let o = v.noise_coloration_svf
@@ -28,41 +27,39 @@ impl Turn {
                 noise_coloration_svf,
                 ..v
             },
-            noise: self.noise,
             sample: o.out,
         }
     }
 
     // Noise that is drawn anew at each tick of the clock, blended with the sample.
     pub(crate) fn clocked(self, settings: Settings) -> Self
-        ensures { λ r. ⌜ turned r ≡ spec.clocked settings (behind self) (self .sample) ⌝ }
+        ensures { λ r. ⌜ turned r ≡ spec.clocked settings (self .voice) (self .sample) ⌝ }
     {
         let v = self.voice;
         let out = self.sample;
         let noise_clock = v.noise_clock + settings.noise_f;
         if noise_clock >= 1.0 {
-            let draw = random::get_float(self.noise);
+            let draw = random::get_float(v.noise);
             let noise_sample = draw.value - 0.5;
             return Turn {
                 voice: Hihat {
                     noise_clock: noise_clock - 1.0,
                     noise_sample,
+                    noise: draw.word,
                     ..v
                 },
-                noise: draw.word,
                 sample: out + settings.noisiness * (noise_sample - out),
             };
         }
         Turn {
             voice: Hihat { noise_clock, ..v },
-            noise: self.noise,
             sample: out + settings.noisiness * (v.noise_sample - out),
         }
     }
 
     // Apply VCA.
     pub(crate) fn amplified(self, settings: Settings) -> Self
-        ensures { λ r. ⌜ turned r ≡ spec.amplified settings (behind self) (self .sample) ⌝ }
+        ensures { λ r. ⌜ turned r ≡ spec.amplified settings (self .voice) (self .sample) ⌝ }
     {
         let v = self.voice;
         let vca_type = settings.vca_type;
@@ -75,26 +72,23 @@ impl Turn {
                     sustain_gain,
                     ..v
                 },
-                noise: self.noise,
                 sample: amplify(vca_type, self.sample, sustain_gain),
             };
         }
         Turn {
             voice: Hihat { envelope, ..v },
-            noise: self.noise,
             sample: amplify(vca_type, self.sample, envelope),
         }
     }
 
     pub(crate) fn high_passed(self) -> Self
-        ensures { λ r. ⌜ turned r ≡ spec.highPassed (behind self) (self .sample) ⌝ }
+        ensures { λ r. ⌜ turned r ≡ spec.highPassed (self .voice) (self .sample) ⌝ }
     {
         let v = self.voice;
         let o = v.hpf.process(self.sample, FilterMode::HighPass);
         let hpf = o.filter;
         Turn {
             voice: Hihat { hpf, ..v },
-            noise: self.noise,
             sample: o.out,
         }
     }

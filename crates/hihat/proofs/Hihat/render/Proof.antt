@@ -16,11 +16,13 @@ accepted c =
     let ran = c .before .before in
     let begun = ran .before .before in
     let set = begun .before .before in
-    let none = zero-of _ _ (set .before .before .before .asked .ensures) (set .before .enum-told2 .given .1) in
-    rw (none, five-passes) (rw (begun .tuned .ensures, begun .before .triggered .ensures, set .settings .ensures) at (ran .run .ensures))
+    let known = set .before .before .before .asked .ensures in
+    let none = zero-of _ _ known (set .before .enum-told2 .given .1) in
+    let left = rw (begun .tuned .ensures, begun .before .triggered .ensures, set .settings .ensures) at (ran .run .ensures) in
+    (known, rw (none, five-passes) left)
 
 pub render-spec : {M : Type 1} → statement M
 render-spec =
     tie.close (tie.spec (λ c κs. tt) (λ c. search needs) (λ c. search needs) settings-requires (λ c κs. tt) (λ c κs. tt) (λ c κs. tt)
-    (λ c. let known = c .before .before .asked .ensures in (known, rw (suc-of _ _ known _ (c .enum-told .given .1)) (refl, (refl, refl))))
+    (λ c. let known = c .before .before .asked .ensures in (known, rw (suc-of _ _ known _ (c .enum-told .given .1)) (refl, refl)))
     (λ c. search needs) accepted)

@@ -3,7 +3,6 @@ use mathlib.Core.Path.{_≡_, ap, _∙_}
 use lib.Ieee.{Float}
 use Rattle.block.specs.Block.{Turn, source}
 use Rattle.block.specs.OnePass.{then}
-use Rattle.refusal.specs.Refusal.{noisy}
 use Rattle.hihat.specs.Hihat.{metallic, colored, clocked, amplified, highPassed}
 use Rattle.hihat.specs.OnePass.{step}
 use Rattle.hihat.proofs.OnePass.{two, three, four}
@@ -21,7 +20,7 @@ returns c = λ x.
     let at-color = at-clock .before in
     let args = at-color .before .before .args in
     let b = args .settings in
-    let s = noisy (args .self) (args .noise) in
+    let s = args .self in
     let second = through (source (metallic b)) colored s x _ _ (at-color .before .metallic .ensures) (at-color .colored .ensures) in
     let third = through (two b) (clocked b) s x _ _ second (at-clock .clocked .ensures) in
     let fourth = through (three b) (amplified b) s x _ _ third (at-vca .amplified .ensures) in

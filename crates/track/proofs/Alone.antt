@@ -10,21 +10,11 @@ use lib.ListN.{replicate, replicate-append-replicate}
 use lib.Ieee.{Float}
 use Rattle.refusal.specs.Refusal.{Call}
 use Rattle.cue_sheet.specs.CueLine.{Strike}
-use Rattle.cue_sheet.proofs.Questions.{KnobsOf}
 use Rattle.track.specs.Mix.{silence}
 use Rattle.track.specs.Track.{Render, Player, until, isOwn, latest, called, left, segmentsFrom, segments, given, trackOf}
 use Rattle.track.proofs.Mixed.{silence-length, silence-add}
 use Rattle.track.proofs.Laws.{Plays, PlaysAt, Lawful}
-
--- ---- the cues of a sheet: from a place on they do not fall, none is past the sheet's end, and their knobs have passed their questions
-pub CuesIn : ℕ → ℕ → List Strike → Type 0
-CuesIn length from [] = from ≤ length
-CuesIn length from (s ∷ ss) = (from ≤ s .start) × KnobsOf (s .cue) × CuesIn length (s .start) ss
-
-pub until-in : (length from : ℕ) (ss : List Strike) → CuesIn length from ss → (from ≤ until length ss) × (until length ss ≤ length)
-unfolding CuesIn until
-until-in length from [] cues = (cues, omega arith)
-until-in length from (s ∷ ss) cues = (cues .0, let b = until-in length (s .start) ss (cues .2) in omega (arith, b .0, b .1))
+use Rattle.track.proofs.Cues.{CuesIn, until-in}
 
 -- ---- a voice's own cues, and what it plays by them alone: triggered at each, up to the next
 pub record Own (Voice : Type 0) : Type 0 where
@@ -32,25 +22,25 @@ pub record Own (Voice : Type 0) : Type 0 where
   pub render : Render Voice
 
 module _ {Voice : Type 0} where
-  pub onOwn : ℕ → Option (Render Voice) → List (Own Voice) → List (Own Voice)
+  unfoldable pub onOwn : ℕ → Option (Render Voice) → List (Own Voice) → List (Own Voice)
   onOwn start none os = os
   onOwn start (some render) os = record { start = start; render = render } ∷ os
 
-  pub ends : ℕ → List (Own Voice) → ℕ
+  unfoldable pub ends : ℕ → List (Own Voice) → ℕ
   ends length [] = length
   ends length (o ∷ os) = o .start
 
-  pub soloFrom : ℕ → Voice → List (Own Voice) → List (Option Float)
+  unfoldable pub soloFrom : ℕ → Voice → List (Own Voice) → List (Option Float)
   soloFrom length v [] = []
   soloFrom length v (o ∷ os) =
       let call = o .render v true (silence (ends length os - o .start)) in
       map some (call .out) ++ soloFrom length (call .state) os
 
-  pub solo : ℕ → Voice → List (Own Voice) → List (Option Float)
+  unfoldable pub solo : ℕ → Voice → List (Own Voice) → List (Option Float)
   solo length v os = replicate (ends length os) none ++ soloFrom length v os
 
 module _ {Voice : Type 0} (p : Player Voice) where
-  pub owns : List Strike → List (Own Voice)
+  unfoldable pub owns : List Strike → List (Own Voice)
   owns [] = []
   owns (s ∷ ss) = onOwn (s .start) (p .render (s .cue)) (owns ss)
 

@@ -5,7 +5,6 @@ use mathlib.Core.Path.{_≡_, refl, ap}
 use mathlib.Core.Bool.{false, cond}
 use lib.ListN.{length, length-append}
 use Rattle.block.proofs.Blocks.{samples-add, after-add, after-holds}
-use Rattle.refusal.specs.Refusal.{Noisy, noisy}
 use Rattle.refusal.specs.Rows.{InTwo, InRows}
 use Rattle.refusal.proofs.ByNumber.{shorter}
 use Rattle.refusal.proofs.Rows.{in-rows}
@@ -18,19 +17,19 @@ use Rattle.analog_snare_drum.specs.declared.AnalogSnareDrum.{AnalogSnare
 use Rattle.analog_snare_drum.specs.declared.Settings.{Settings}
 
 -- to tune it again changes nothing
-abbrev Tuned : Settings → Noisy AnalogSnareDrum → Type 0
-Tuned b s = tuned b (s .voice) ≡ s .voice
+abbrev Tuned : Settings → AnalogSnareDrum → Type 0
+Tuned b v = tuned b v ≡ v
 
-begins : (b : Settings) (v : AnalogSnareDrum) (noise : ℕ) → Tuned b (noisy (tuned b v) noise)
+begins : (b : Settings) (v : AnalogSnareDrum) → Tuned b (tuned b v)
 unfolding tuned tunedMode Filter.setGQ Filter.setGR
-begins b v noise = refl
+begins b v = refl
 
 abbrev mode : ℕ → AnalogSnareDrum → Svf
 mode i v = filterOf (v .resonator) i
 
-stays : (b : Settings) (s : Noisy AnalogSnareDrum) → Tuned b s → Tuned b (step b s .next)
+stays : (b : Settings) (v : AnalogSnareDrum) → Tuned b v → Tuned b (step b v .next)
 unfolding tuned tunedMode step shellOutput modeOutput
-stays b s e =
+stays b v e =
     rw (
       svf-stays _ _ _ _ (ap (mode 0) e),
       svf-stays _ _ _ _ (ap (mode 1) e),
@@ -42,15 +41,14 @@ stays b s e =
 
 pub any-block-length : AnyBlockLength InTwo
 unfolding renderRefusal
-any-block-length s trigger accent k a b h =
+any-block-length v trigger accent k a b h =
     let whole = rw length-append at h in
     let first = shorter (length a) (length a + length b) _ (omega arith) whole in
     let second = shorter (length b) (length a + length b) _ (omega arith) whole in
     let q = settings k in
-    let start = noisy (tuned q (cond trigger (triggered (s .voice) accent) (s .voice))) (s .noise) in
-    let again = after-holds (step q) (Tuned q) (stays q) (length a) start (begins q _ (s .noise)) in
+    let again = after-holds (step q) (Tuned q) (stays q) (length a) _ (begins q (cond trigger (triggered v accent) v)) in
     rw (length-append, whole, first, second, again, after-add, samples-add)
 
 pub any-block-lengths : AnyBlockLength InRows
-any-block-lengths s trigger accent k =
-    in-rows (λ left. render left false accent k) (λ left. any-block-length left false accent k) _ (any-block-length s trigger accent k)
+any-block-lengths v trigger accent k =
+    in-rows (λ left. render left false accent k) (λ left. any-block-length left false accent k) _ (any-block-length v trigger accent k)

@@ -9,7 +9,7 @@ use lib.Ieee.{Float, nan, binary32, neg, lt, ofInt, toUnsigned}
 use Rattle.ieee754.specs.Single.{_⊕_, _⊖_, _⊗_, decimal}
 use Rattle.ieee754.specs.Operations.{minimumNumber, clamp}
 use Rattle.block.specs.Block.{Turn, samples, after}
-use Rattle.refusal.specs.Refusal.{Noisy, noisy, Call, call, ask, isSampleRate, isBlockLength, isFrequency, isUnit}
+use Rattle.refusal.specs.Refusal.{Call, call, ask, isSampleRate, isBlockLength, isFrequency, isUnit}
 use Rattle.random.specs.Random.{getFloat}
 use Rattle.units.specs.Units.{ratio}
 use Rattle.utils.specs.Utils.{onePole, softClip}
@@ -34,9 +34,9 @@ filterOf resonator i = getD resonator i (record { g = nan; r = nan; h = nan; sta
 
 -- ---- init
 
--- the voice with these filters and constants, every other field zero
-abbrev pub silent : List Svf → Svf → ℕ → ℕ → AnalogSnareDrum
-silent resonator «noise_filter» «trigger_pulse_duration» «pulse_decay_time» =
+-- the voice with these filters, these constants and this noise state, every other field zero
+abbrev pub silent : List Svf → Svf → ℕ → ℕ → ℕ → AnalogSnareDrum
+silent resonator «noise_filter» «trigger_pulse_duration» «pulse_decay_time» noise =
     record {
       «pulse_remaining_samples» = 0;
       pulse = decimal 0 0;
@@ -47,15 +47,17 @@ silent resonator «noise_filter» «trigger_pulse_duration» «pulse_decay_time�
       «noise_filter» = «noise_filter»;
       «trigger_pulse_duration» = «trigger_pulse_duration»;
       «pulse_decay_time» = «pulse_decay_time»;
+      noise = noise;
     }
 
 unfoldable pub ZERO : AnalogSnareDrum
-ZERO = silent (modes (λ i. Filter.ZERO)) Filter.ZERO 0 0
+ZERO = silent (modes (λ i. Filter.ZERO)) Filter.ZERO 0 0 0
 
+-- 33 is the first state of the noise, `static RNG_STATE: AtomicU32 = AtomicU32::new(0x21);`, here one for each voice
 unfoldable pub initialized : AnalogSnareDrum → Float → AnalogSnareDrum
 initialized self «sample_rate_hz» =
     silent (modes (λ i. Filter.init (filterOf (self .resonator) i))) (Filter.init (self .«noise_filter»))
-    (toUnsigned 32 (decimal 1 3 ⊗ «sample_rate_hz»)) (toUnsigned 32 (decimal 1 4 ⊗ «sample_rate_hz»))
+    (toUnsigned 32 (decimal 1 3 ⊗ «sample_rate_hz»)) (toUnsigned 32 (decimal 1 4 ⊗ «sample_rate_hz»)) 33
 
 abbrev pub init : AnalogSnareDrum → Float → Call AnalogSnareDrum
 init self «sample_rate_hz» = call (ask (isSampleRate «sample_rate_hz») 1 0) (initialized self «sample_rate_hz») [] self []
@@ -103,6 +105,7 @@ triggered self accent =
       «noise_filter» = self .«noise_filter»;
       «trigger_pulse_duration» = self .«trigger_pulse_duration»;
       «pulse_decay_time» = self .«pulse_decay_time»;
+      noise = self .noise;
     }
 
 unfoldable pub «MODE_FREQUENCIES» : List Float
@@ -129,6 +132,7 @@ tuned b self =
       «noise_filter» = Filter.setFQ (self .«noise_filter») «f_noise» (decimal 1 0 ⊕ «f_noise» ⊗ decimal 15 1) Fast;
       «trigger_pulse_duration» = self .«trigger_pulse_duration»;
       «pulse_decay_time» = self .«pulse_decay_time»;
+      noise = self .noise;
     }
 
 -- one turn of the loop over the modes: the resonator, and `shell += gain[i]` times what it gives
@@ -149,10 +153,10 @@ shellOutput b resonator first other =
     let m₄ = mode 4 other (m₃ .shell) in
     record { resonator = m₀ .resonator ∷ m₁ .resonator ∷ m₂ .resonator ∷ m₃ .resonator ∷ m₄ .resonator ∷ []; shell = softClip (m₄ .shell) }
 
--- one turn of the loop; b is what stays the same over the block
-unfoldable pub step : Settings → Noisy AnalogSnareDrum → Turn (Noisy AnalogSnareDrum)
-step b s =
-    let self = s .voice in
+-- one turn of the loop; b is what stays the same over the block. The field noise is the state that is drawn from, since `let mut noise` is the
+-- Rust's local variable
+unfoldable pub step : Settings → AnalogSnareDrum → Turn AnalogSnareDrum
+step b self =
     -- Q45 / Q46
     let «pulse_decay_time» = ofInt binary32 (pos (self .«pulse_decay_time»)) in
     let p = TriggerPulse.next (self .«pulse_remaining_samples») (self .pulse) (self .«pulse_height») «pulse_decay_time» in
@@ -161,7 +165,7 @@ step b s =
     let «pulse_lp» = onePole (self .«pulse_lp») pulse (decimal 75 2) in
     let shell = shellOutput b (self .resonator) ((pulse ⊖ «pulse_lp») ⊕ decimal 6 3 ⊗ pulse) (decimal 26 3 ⊗ pulse) in
     -- C56 / R194 / Q48 / C54 / R188 / D54: `if noise < 0.0 {` it is 0.0
-    let draw = getFloat (s .noise) in
+    let draw = getFloat (self .noise) in
     let drawn = decimal 2 0 ⊗ draw .value ⊖ decimal 1 0 in
     let noise = cond (lt drawn (decimal 0 0)) (decimal 0 0) drawn in
     let «noise_envelope» = self .«noise_envelope» ⊗ b .«noise_envelope_decay» in
@@ -170,7 +174,7 @@ step b s =
     -- IC13
     record {
       sample = filtered .out ⊕ shell .shell ⊗ (decimal 1 0 ⊖ b .snappy);
-      next = noisy (record {
+      next = record {
         «pulse_remaining_samples» = p .«remaining_samples»;
         pulse = pulse;
         «pulse_height» = self .«pulse_height»;
@@ -180,7 +184,8 @@ step b s =
         «noise_filter» = filtered .filter;
         «trigger_pulse_duration» = self .«trigger_pulse_duration»;
         «pulse_decay_time» = self .«pulse_decay_time»;
-      }) (draw .word);
+        noise = draw .word;
+      };
     }
 
 -- the number of the first question that is not passed; 0 where all are
@@ -193,10 +198,9 @@ renderRefusal accent k samples =
     (ask (isUnit (k .decay)) 5
     (ask (isUnit (k .snappy)) 5 0)))))
 
-abbrev pub render : Noisy AnalogSnareDrum → Bool → Float → Knobs → List Float → Call (Noisy AnalogSnareDrum)
-render s trigger accent k out =
+abbrev pub render : AnalogSnareDrum → Bool → Float → Knobs → List Float → Call AnalogSnareDrum
+render self trigger accent k out =
     let b = settings k in
     let n = length out in
-    let voice = cond trigger (triggered (s .voice) accent) (s .voice) in
-    let start = noisy (tuned b voice) (s .noise) in
-    call (renderRefusal accent k n) (after (step b) n start) (samples (step b) n start) s out
+    let voice = tuned b (cond trigger (triggered self accent) self) in
+    call (renderRefusal accent k n) (after (step b) n voice) (samples (step b) n voice) self out

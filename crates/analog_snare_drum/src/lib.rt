@@ -4,7 +4,7 @@ ghost use mathlib.Core.Bool.{true, cond};
 ghost use lib.ListN.{length};
 ghost use lib.Ieee.{lt};
 ghost use Rattle.ieee754.specs.Single.{decimal};
-ghost use Rattle.refusal.specs.Refusal.{answerNumber, noisy};
+ghost use Rattle.refusal.specs.Refusal.{answerNumber};
 ghost use Rattle.block.specs.Block.{samples, after};
 ghost use Rattle.analog_snare_drum.specs.AnalogSnareDrum as spec;
 ghost use Rattle.analog_snare_drum.specs.AnalogSnareDrum.{render};
@@ -28,6 +28,7 @@ pub struct AnalogSnareDrum {
     pub noise_filter: Svf,
     pub trigger_pulse_duration: u32,
     pub pulse_decay_time: u32,
+    pub noise: u32,
 }
 
 #[repr(C)]
@@ -38,17 +39,10 @@ pub struct Knobs {
     pub snappy: f32,
 }
 
-// What `init` answers, and the voice after it.
+// What a call answers, and the voice after it.
 pub struct Answered {
     pub answer: Answer,
     pub voice: AnalogSnareDrum,
-}
-
-// What `render` answers, and the voice and the noise state after it.
-pub struct Rendered {
-    pub answer: Answer,
-    pub voice: AnalogSnareDrum,
-    pub noise: u32,
 }
 
 // What stays the same over a block. Decay and leak are made of the knob `snappy`; here it is clamped.
@@ -70,10 +64,9 @@ struct Excitation {
     other: f32,
 }
 
-// The voice and the noise state after one turn, and its sample.
+// The voice after one turn, and its sample.
 struct Turn {
     voice: AnalogSnareDrum,
-    noise: u32,
     sample: f32,
 }
 
@@ -101,6 +94,7 @@ impl AnalogSnareDrum {
         noise_filter: Svf::ZERO,
         trigger_pulse_duration: 0,
         pulse_decay_time: 0,
+        noise: 0,
     };
 
     pub fn init(self, sample_rate_hz: f32) -> Answered
@@ -136,35 +130,28 @@ impl AnalogSnareDrum {
             noise_filter,
             trigger_pulse_duration: ieee754::truncate_u32(1.0e-3 * sample_rate_hz),
             pulse_decay_time: ieee754::truncate_u32(0.1e-3 * sample_rate_hz),
+            noise: 33,
             ..AnalogSnareDrum::ZERO
         }
     }
 
-    pub fn render(
-        self,
-        noise: u32,
-        trigger: bool,
-        accent: f32,
-        knobs: Knobs,
-        out: &mut [f32],
-    ) -> Rendered
-        ensures number { λ r. ⌜ answerNumber (r .answer) ≡ render (noisy self noise) trigger accent knobs (now (out .entry)) .number ⌝ }
-        ensures voice { λ r. ⌜ r .voice ≡ render (noisy self noise) trigger accent knobs (now (out .entry)) .state .voice ⌝ }
-        ensures noise { λ r. ⌜ r .noise ≡ render (noisy self noise) trigger accent knobs (now (out .entry)) .state .noise ⌝ }
-        ensures out { λ _. ⌜ now (out .exit) ≡ render (noisy self noise) trigger accent knobs (now (out .entry)) .out ⌝ }
+    pub fn render(self, trigger: bool, accent: f32, knobs: Knobs, out: &mut [f32]) -> Answered
+        ensures number { λ r. ⌜ answerNumber (r .answer) ≡ render self trigger accent knobs (now (out .entry)) .number ⌝ }
+        ensures voice { λ r. ⌜ r .voice ≡ render self trigger accent knobs (now (out .entry)) .state ⌝ }
+        ensures out { λ _. ⌜ now (out .exit) ≡ render self trigger accent knobs (now (out .entry)) .out ⌝ }
     {
         let answer = knobs.asked(accent, out.len());
         match answer {
-            Answer::Refused(_) => Rendered {
+            Answer::Refused(_) => Answered {
                 answer,
                 voice: self,
-                noise,
             },
             Answer::Accepted => {
                 let settings = knobs.settings();
-                self.triggered(trigger, accent)
+                let voice = self.triggered(trigger, accent)
                     .tuned(settings)
-                    .run(noise, settings, out)
+                    .run(settings, out);
+                Answered { answer, voice }
             }
         }
     }
@@ -207,24 +194,20 @@ impl AnalogSnareDrum {
         }
     }
 
-    // The loop over the block of an accepted call.
-    fn run(self, noise: u32, settings: Settings, out: &mut [f32]) -> Rendered
-        ensures number { λ r. ⌜ answerNumber (r .answer) ≡ 0 ⌝ }
-        ensures voice { λ r. ⌜ r .voice ≡ after (spec.step settings) (length (now (out .entry))) (noisy self noise) .voice ⌝ }
-        ensures noise { λ r. ⌜ r .noise ≡ after (spec.step settings) (length (now (out .entry))) (noisy self noise) .noise ⌝ }
-        ensures out { λ _. ⌜ now (out .exit) ≡ samples (spec.step settings) (length (now (out .entry))) (noisy self noise) ⌝ }
+    // The loop over the block.
+    fn run(self, settings: Settings, out: &mut [f32]) -> Self
+        ensures voice { λ r. ⌜ r ≡ after (spec.step settings) (length (now (out .entry))) self ⌝ }
+        ensures out { λ _. ⌜ now (out .exit) ≡ samples (spec.step settings) (length (now (out .entry))) self ⌝ }
     {
         let mut voice = self;
-        let mut state = noise;
         let mut e = voice.excitation();
         // The pulse comes to rest, at most rates in a subnormal that its product rounds back to itself.
         // From then on no turn changes the excitation, and products of subnormals are slow: e is kept.
         let mut at_rest = voice.is_at_rest(e);
         let mut i = 0;
         while i < out.len() {
-            let turn = voice.step(state, settings, e);
+            let turn = voice.step(settings, e);
             voice = turn.voice;
-            state = turn.noise;
             out[i] = turn.sample;
             i += 1;
             if !at_rest {
@@ -232,11 +215,7 @@ impl AnalogSnareDrum {
                 at_rest = voice.is_at_rest(e);
             }
         }
-        Rendered {
-            answer: Answer::Accepted,
-            voice,
-            noise: state,
-        }
+        voice
     }
 
     // What the next turn of the loop makes of the pulse.
@@ -277,15 +256,15 @@ impl AnalogSnareDrum {
     }
 
     // What is left of the turn.
-    fn step(self, noise: u32, settings: Settings, e: Excitation) -> Turn
+    fn step(self, settings: Settings, e: Excitation) -> Turn
         requires { ⌜ e ≡ excitation self ⌝ }
-        ensures state { λ r. ⌜ noisy (r .voice) (r .noise) ≡ spec.step settings (noisy self noise) .next ⌝ }
-        ensures sample { λ r. ⌜ r .sample ≡ spec.step settings (noisy self noise) .sample ⌝ }
+        ensures voice { λ r. ⌜ r .voice ≡ spec.step settings self .next ⌝ }
+        ensures sample { λ r. ⌜ r .sample ≡ spec.step settings self .sample ⌝ }
     {
         let shell = self.shell_output(settings, e.first, e.other);
 
         // C56 / R194 / Q48 / C54 / R188 / D54
-        let draw = random::get_float(noise);
+        let draw = random::get_float(self.noise);
         let drawn = not_negative(2.0 * draw.value - 1.0);
         let noise_envelope = self.noise_envelope * settings.noise_envelope_decay;
 
@@ -304,9 +283,9 @@ impl AnalogSnareDrum {
                 noise_envelope,
                 resonator,
                 noise_filter,
+                noise: draw.word,
                 ..self
             },
-            noise: draw.word,
             // IC13
             sample: filtered.out + shell.shell * (1.0 - settings.snappy),
         }

@@ -3,23 +3,20 @@ use borrow.Author.Needs.{needs}
 use borrow.Author.Tests.{not-false}
 use Prim.Native.Nat.{_-_}
 use native.Mathlib.Omega.{arith}
-use mathlib.Core.Path.{refl, sym, subst}
 use lib.ListN.{length, length-set}
-use Rattle.refusal.specs.Refusal.{Noisy, noisy}
 use Rattle.block.specs.Block.{source}
 use Rattle.block.proofs.Blocks.{Going, begin, turn, end-source}
 use Rattle.analog_snare_drum.specs.AnalogSnareDrum.{step}
-use Rattle.analog_snare_drum.specs.declared.AnalogSnareDrum.{AnalogSnareDrum}
 use Rattle.analog_snare_drum.proofs.Rest.{Kept, kept}
 use Rattle.analog_snare_drum.proofs.AnalogSnareDrum.run.Statement.{statement}
 use Rattle.analog_snare_drum.proofs.AnalogSnareDrum.run.Tie as tie
 
 abbrev Inv-loop : tie.InvT-loop
-Inv-loop noise settings out₀ voice₀ state₀ e₀ at-rest₀ i₀ out voice state e at-rest i =
-    Going (source (step settings)) (noisy voice₀ state₀) out₀ out₀ (noisy voice state) out i × Kept voice e at-rest
+Inv-loop settings out₀ voice₀ e₀ at-rest₀ i₀ out voice e at-rest i =
+    Going (source (step settings)) voice₀ out₀ out₀ voice out i × Kept voice e at-rest
 
 abbrev μ-loop : tie.MeasureT-loop
-μ-loop noise settings out₀ voice₀ state₀ e₀ at-rest₀ i₀ out voice state e at-rest i = length out - i
+μ-loop settings out₀ voice₀ e₀ at-rest₀ i₀ out voice e at-rest i = length out - i
 
 -- a turn that makes the excitation anew, and one that keeps it
 made : tie.Need-loop-again Inv-loop μ-loop
@@ -33,10 +30,9 @@ made c =
 keeps : tie.Need-loop-again-2 Inv-loop μ-loop
 keeps c =
     let s = c .before .before in
-    let l = s .before .before .loop in
-    let next = s .step .ensures .0 in (
-      rw (next, s .step .ensures .1) (turn _ _ _ _ _ _ _ (l .inv .0) (omega (arith, l .inv .0 .long))),
-      subst (λ (t : Noisy AnalogSnareDrum). Kept (t .voice) (l .e) (l .at-rest)) (sym next) (kept _ _ _ _ (not-false _ (c .if1 .left)) (l .inv .1)),
+    let l = s .before .before .loop in (
+      rw (s .step .ensures .0, s .step .ensures .1) (turn _ _ _ _ _ _ _ (l .inv .0) (omega (arith, l .inv .0 .long))),
+      rw (s .step .ensures .0) (kept _ _ _ _ (not-false _ (c .if1 .left)) (l .inv .1)),
     )
 
 pub run-spec : {M : Type 1} → statement M
@@ -45,4 +41,4 @@ run-spec =
     (λ c. (begin _ _ _ _ (omega arith), record { current = c .before .excitation .ensures; rest = c .is-at-rest .ensures .0 })) (λ c κs. search needs)
     (λ c. search needs) (λ c. search needs) (λ c. search needs) (λ c κs. tt) (λ c κs. tt) (λ c. simp length-set (omega arith)) made
     (λ c. simp length-set (omega arith)) keeps (λ c. search needs)
-    (λ c. let e = end-source _ _ _ _ _ _ (c .before .loop .inv .0) (c .loop-test .left) in (refl, (rw (← e .0), (rw (← e .0), e .1)))))
+    (λ c. end-source _ _ _ _ _ _ (c .before .loop .inv .0) (c .loop-test .left)))

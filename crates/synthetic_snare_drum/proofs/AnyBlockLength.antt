@@ -8,7 +8,6 @@ use lib.ListN.{length, length-append}
 use lib.Ieee.{Float}
 use Rattle.block.specs.Block.{after}
 use Rattle.block.proofs.Blocks.{samples-add, after-add, after-holds}
-use Rattle.refusal.specs.Refusal.{Noisy, noisy}
 use Rattle.refusal.specs.Rows.{InTwo, InRows}
 use Rattle.refusal.proofs.ByNumber.{shorter-at-rate}
 use Rattle.refusal.proofs.Rows.{in-rows}
@@ -33,13 +32,13 @@ module _ (v w : SyntheticSnareDrum) (k : Knobs) (m n : ℕ) where
   same-tuned u = refl
 
 -- ---- a voice that is tuned by these settings, and has this rate
-record Tuned (b : Settings) (hz : Float) (s : Noisy SyntheticSnareDrum) : Type 0 where
-  again : tuned (s .voice) b ≡ s .voice
-  rate : s .voice .«sample_rate_hz» ≡ hz
+record Tuned (b : Settings) (hz : Float) (v : SyntheticSnareDrum) : Type 0 where
+  again : tuned v b ≡ v
+  rate : v .«sample_rate_hz» ≡ hz
 
-stays : (b : Settings) (size : ℕ) (hz : Float) (s : Noisy SyntheticSnareDrum) → Tuned b hz s → Tuned b hz (step b size s .next)
+stays : (b : Settings) (size : ℕ) (hz : Float) (v : SyntheticSnareDrum) → Tuned b hz v → Tuned b hz (step b size v .next)
 unfolding tuned step
-stays b size hz s t = record {
+stays b size hz v t = record {
   again =
       rw (
         one-pole-stays _ _ _ (ap (λ (v : SyntheticSnareDrum). v .«drum_lp») (t .again)),
@@ -49,39 +48,38 @@ stays b size hz s t = record {
   rate = t .rate;
 }
 
-begins : (b : Settings) (s : Noisy SyntheticSnareDrum) (trigger : Bool) (k : Knobs)
-    → let v = tuned (s .voice) b in
-    Tuned b (s .voice .«sample_rate_hz») (noisy (cond trigger (triggered v (k .accent) (k .decay)) v) (s .noise))
+begins : (b : Settings) (v : SyntheticSnareDrum) (trigger : Bool) (k : Knobs)
+    → let w = tuned v b in
+    Tuned b (v .«sample_rate_hz») (cond trigger (triggered w (k .accent) (k .decay)) w)
 unfolding tuned triggered OnePole.setF Svf.setGQ Svf.setGR
-begins b s true k = record { again = refl; rate = refl }
-begins b s false k = record { again = refl; rate = refl }
+begins b v true k = record { again = refl; rate = refl }
+begins b v false k = record { again = refl; rate = refl }
 
 pub any-block-length : AnyBlockLength InTwo
 unfolding renderRefusal
-any-block-length s trigger k unsustained a b h =
-    let v = s .voice in
+any-block-length v trigger k unsustained a b h =
     let n = length a + length b in
     let whole = rw length-append at h in
     let first = shorter-at-rate (v .«sample_rate_hz») n _ whole (length a) (omega arith) in
     let second = shorter-at-rate (v .«sample_rate_hz») n _ whole (length b) (omega arith) in
     let q = settings v k n in
-    let t = after-holds (step q n) (Tuned q (v .«sample_rate_hz»)) (stays q n _) (length a) _ (begins q s trigger k) in
-    let left = after (step q n) (length a) (noisy (cond trigger (triggered (tuned v q) (k .accent) (k .decay)) (tuned v q)) (s .noise)) .voice in
+    let t = after-holds (step q n) (Tuned q (v .«sample_rate_hz»)) (stays q n _) (length a) _ (begins q v trigger k) in
+    let left = after (step q n) (length a) (cond trigger (triggered (tuned v q) (k .accent) (k .decay)) (tuned v q)) in
     rw (
       length-append,
       whole,
       first,
       same-step v v k (length a) n unsustained refl,
       same-tuned v v k (length a) n v,
-      t .rate,
-      second,
       same-step left v k (length b) n unsustained (t .rate),
       same-tuned left v k (length b) n left,
       t .again,
       after-add,
       samples-add,
+      t .rate,
+      second,
     )
 
 pub any-block-lengths : AnyBlockLength InRows
-any-block-lengths s trigger k unsustained =
-    in-rows (λ left. render left false k) (λ left. any-block-length left false k unsustained) _ (any-block-length s trigger k unsustained)
+any-block-lengths v trigger k unsustained =
+    in-rows (λ left. render left false k) (λ left. any-block-length left false k unsustained) _ (any-block-length v trigger k unsustained)

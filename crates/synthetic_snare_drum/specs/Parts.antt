@@ -4,14 +4,13 @@ use mathlib.Core.Bool.{cond}
 use lib.Dec.{eqb}
 use Rattle.ieee754.specs.Single.{_⊕_, _⊗_, decimal}
 use Rattle.block.specs.Block as Block
-use Rattle.refusal.specs.Refusal.{Noisy, noisy}
 use Rattle.synthetic_snare_drum.specs.declared.SyntheticSnareDrum.{SyntheticSnareDrum}
 use Rattle.synthetic_snare_drum.specs.declared.Settings.{Settings}
 use Rattle.synthetic_snare_drum.specs.declared.Turn.{Turn}
 
 -- what a turn's code gives, as the definition's turn
-abbrev pub turned : Turn → Block.Turn (Noisy SyntheticSnareDrum)
-turned t = record { sample = t .sample; next = noisy (t .voice) (t .noise) }
+abbrev pub turned : Turn → Block.Turn SyntheticSnareDrum
+turned t = record { sample = t .sample; next = t .voice }
 
 -- the voice past `if sustain {` and its `else`, where the drum always decays
 unfoldable pub enveloped : SyntheticSnareDrum → Settings → SyntheticSnareDrum
@@ -29,4 +28,5 @@ enveloped self b =
       «drum_lp» = self .«drum_lp»;
       «snare_hp» = self .«snare_hp»;
       «snare_lp» = self .«snare_lp»;
+      noise = self .noise;
     }

@@ -9,7 +9,7 @@ use lib.Ieee.{Float, nan, neg, le, lt, toUnsigned}
 use Rattle.ieee754.specs.Single.{_⊕_, _⊖_, _⊗_, _⊘_, decimal}
 use Rattle.ieee754.specs.Operations.{abs, minimumNumber, clamp}
 use Rattle.block.specs.Block.{Turn, samples, after}
-use Rattle.refusal.specs.Refusal.{Noisy, noisy, Call, call, ask, isSampleRate, isBlockLength, isFrequency, isUnit}
+use Rattle.refusal.specs.Refusal.{Call, call, ask, isSampleRate, isBlockLength, isFrequency, isUnit}
 use Rattle.random.specs.Random.{getFloat}
 use Rattle.units.specs.Units.{ratio}
 use Rattle.utils.specs.Utils.{sqrt}
@@ -26,9 +26,9 @@ use Rattle.synthetic_snare_drum.specs.declared.Settings.{Settings}
 
 -- ---- init
 
--- the voice of this rate and with these filters, every other field zero
-abbrev pub silent : Float → OnePole → OnePole → Svf → SyntheticSnareDrum
-silent «sample_rate_hz» «drum_lp» «snare_hp» «snare_lp» =
+-- the voice of this rate, with these filters and this noise state, every other field zero
+abbrev pub silent : Float → OnePole → OnePole → Svf → ℕ → SyntheticSnareDrum
+silent «sample_rate_hz» «drum_lp» «snare_hp» «snare_lp» noise =
     record {
       «sample_rate_hz» = «sample_rate_hz»;
       phase = decimal 0 0 ∷ decimal 0 0 ∷ [];
@@ -40,14 +40,16 @@ silent «sample_rate_hz» «drum_lp» «snare_hp» «snare_lp» =
       «drum_lp» = «drum_lp»;
       «snare_hp» = «snare_hp»;
       «snare_lp» = «snare_lp»;
+      noise = noise;
     }
 
 unfoldable pub ZERO : SyntheticSnareDrum
-ZERO = silent (decimal 0 0) OnePole.ZERO OnePole.ZERO Svf.ZERO
+ZERO = silent (decimal 0 0) OnePole.ZERO OnePole.ZERO Svf.ZERO 0
 
+-- 33 is the first state of the noise, `static RNG_STATE: AtomicU32 = AtomicU32::new(0x21);`, here one for each voice
 unfoldable pub initialized : SyntheticSnareDrum → Float → SyntheticSnareDrum
 initialized self «sample_rate_hz» =
-    silent «sample_rate_hz» (OnePole.init (self .«drum_lp»)) (OnePole.init (self .«snare_hp»)) (Svf.init (self .«snare_lp»))
+    silent «sample_rate_hz» (OnePole.init (self .«drum_lp»)) (OnePole.init (self .«snare_hp»)) (Svf.init (self .«snare_lp»)) 33
 
 abbrev pub init : SyntheticSnareDrum → Float → Call SyntheticSnareDrum
 init self «sample_rate_hz» = call (ask (isSampleRate «sample_rate_hz») 1 0) (initialized self «sample_rate_hz») [] self []
@@ -97,6 +99,7 @@ tuned self b =
       «drum_lp» = OnePole.setF (self .«drum_lp») (decimal 3 0 ⊗ b .f0) Fast;
       «snare_hp» = OnePole.setF (self .«snare_hp») «snare_f_min» Fast;
       «snare_lp» = Svf.setFQ (self .«snare_lp») «snare_f_max» (decimal 5 1 ⊕ decimal 2 0 ⊗ b .snappy) Fast;
+      noise = self .noise;
     }
 
 -- what stands under `if trigger {`, with a u32 for `as i32`
@@ -114,6 +117,7 @@ triggered self accent decay =
       «drum_lp» = self .«drum_lp»;
       «snare_hp» = self .«snare_hp»;
       «snare_lp» = self .«snare_lp»;
+      noise = self .noise;
     }
 
 -- ---- one turn of the loop
@@ -130,10 +134,9 @@ distortedSine phase =
     let triangle = cond (lt phase (decimal 5 1)) phase (decimal 1 0 ⊖ phase) ⊗ decimal 4 0 ⊖ decimal 13 1 in
     decimal 2 0 ⊗ triangle ⊘ (decimal 1 0 ⊕ abs triangle)
 
--- b is what stays the same over the block. What the Rust writes to a field has the field's name here
-unfoldable pub step : Settings → ℕ → Noisy SyntheticSnareDrum → Turn (Noisy SyntheticSnareDrum)
-step b size s =
-    let self = s .voice in
+-- b is what stays the same over the block. What the Rust writes to a field has the field's name here, but `let noise` is its local variable
+unfoldable pub step : Settings → ℕ → SyntheticSnareDrum → Turn SyntheticSnareDrum
+step b size self =
     let phase₀ = getD (self .phase) 0 nan in
     let phase₁ = getD (self .phase) 1 nan in
     -- `if sustain {`: `sustain_gain.next()` steps the voice's sustain_gain, which stays as it is past the `else`
@@ -165,13 +168,13 @@ step b size s =
     let drum = drum ⊕ distortedSine phase₁ ⊗ decimal 25 2 in
     let drum = drum ⊗ («drum_amplitude» ⊗ b .«drum_level») in
     let drum = OnePole.process (self .«drum_lp») drum LowPass in
-    let noise = getFloat (s .noise) in
+    let noise = getFloat (self .noise) in
     let low = Svf.process (self .«snare_lp») (noise .value) LowPass in
     let high = OnePole.process (self .«snare_hp») (low .out) HighPass in
     let snare = (high .out ⊕ decimal 1 1) ⊗ («snare_amplitude» ⊕ fm) ⊗ b .«snare_level» in
     record {
       sample = snare ⊕ drum .out;
-      next = noisy (record {
+      next = record {
         «sample_rate_hz» = self .«sample_rate_hz»;
         phase = phase₀ ∷ phase₁ ∷ [];
         «drum_amplitude» = «drum_amplitude»;
@@ -182,7 +185,8 @@ step b size s =
         «drum_lp» = drum .filter;
         «snare_hp» = high .filter;
         «snare_lp» = low .filter;
-      }) (noise .word);
+        noise = noise .word;
+      };
     }
 
 -- ---- render
@@ -198,10 +202,10 @@ renderRefusal «sample_rate_hz» k size =
     (ask (isUnit (k .decay)) 5
     (ask (isUnit (k .snappy)) 5 0))))))
 
-abbrev pub render : Noisy SyntheticSnareDrum → Bool → Knobs → List Float → Call (Noisy SyntheticSnareDrum)
-render s trigger k out =
+abbrev pub render : SyntheticSnareDrum → Bool → Knobs → List Float → Call SyntheticSnareDrum
+render self trigger k out =
     let size = length out in
-    let b = settings (s .voice) k size in
-    let voice = tuned (s .voice) b in
-    let begun = noisy (cond trigger (triggered voice (k .accent) (k .decay)) voice) (s .noise) in
-    call (renderRefusal (s .voice .«sample_rate_hz») k size) (after (step b size) size begun) (samples (step b size) size begun) s out
+    let b = settings self k size in
+    let voice = tuned self b in
+    let begun = cond trigger (triggered voice (k .accent) (k .decay)) voice in
+    call (renderRefusal (self .«sample_rate_hz») k size) (after (step b size) size begun) (samples (step b size) size begun) self out

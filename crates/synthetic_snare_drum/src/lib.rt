@@ -6,7 +6,7 @@ ghost use lib.Ieee.{lt, neg};
 ghost use lib.ListN.{length};
 ghost use Rattle.ieee754.specs.Single.{_⊕_, _⊖_, decimal};
 ghost use Rattle.ieee754.specs.Operations.{abs};
-ghost use Rattle.refusal.specs.Refusal.{answerNumber, noisy};
+ghost use Rattle.refusal.specs.Refusal.{answerNumber};
 ghost use Rattle.block.specs.Block.{samples, after};
 ghost use Rattle.synthetic_snare_drum.specs.SyntheticSnareDrum as spec;
 ghost use Rattle.synthetic_snare_drum.specs.SyntheticSnareDrum.{render};
@@ -30,6 +30,7 @@ pub struct SyntheticSnareDrum {
     pub drum_lp: OnePole,
     pub snare_hp: OnePole,
     pub snare_lp: Svf,
+    pub noise: u32,
 }
 
 // The parameters of a block.
@@ -43,17 +44,10 @@ pub struct Knobs {
     pub snappy: f32,
 }
 
-// What `init` answers, and the voice after it.
+// What a call answers, and the voice after it.
 pub struct Answered {
     pub answer: Answer,
     pub voice: SyntheticSnareDrum,
-}
-
-// What `render` answers, and the voice and the noise state after it.
-pub struct Rendered {
-    pub answer: Answer,
-    pub voice: SyntheticSnareDrum,
-    pub noise: u32,
 }
 
 // What stays the same over a block: fm_amount is squared here, and snappy clamped.
@@ -70,10 +64,9 @@ struct Settings {
     increment: f32,
 }
 
-// One turn of the loop: the voice and the noise state after it, and its sample.
+// One turn of the loop: the voice after it, and its sample.
 struct Turn {
     voice: SyntheticSnareDrum,
-    noise: u32,
     sample: f32,
 }
 
@@ -90,6 +83,7 @@ impl SyntheticSnareDrum {
         drum_lp: OnePole::ZERO,
         snare_hp: OnePole::ZERO,
         snare_lp: Svf::ZERO,
+        noise: 0,
     };
 
     pub fn init(self, sample_rate_hz: f32) -> Answered
@@ -120,22 +114,21 @@ impl SyntheticSnareDrum {
             drum_lp,
             snare_hp,
             snare_lp,
+            noise: 33,
             ..SyntheticSnareDrum::ZERO
         }
     }
 
-    pub fn render(self, noise: u32, trigger: bool, knobs: Knobs, out: &mut [f32]) -> Rendered
-        ensures number { λ r. ⌜ answerNumber (r .answer) ≡ render (noisy self noise) trigger knobs (now (out .entry)) .number ⌝ }
-        ensures voice { λ r. ⌜ r .voice ≡ render (noisy self noise) trigger knobs (now (out .entry)) .state .voice ⌝ }
-        ensures noise { λ r. ⌜ r .noise ≡ render (noisy self noise) trigger knobs (now (out .entry)) .state .noise ⌝ }
-        ensures out { λ _. ⌜ now (out .exit) ≡ render (noisy self noise) trigger knobs (now (out .entry)) .out ⌝ }
+    pub fn render(self, trigger: bool, knobs: Knobs, out: &mut [f32]) -> Answered
+        ensures number { λ r. ⌜ answerNumber (r .answer) ≡ render self trigger knobs (now (out .entry)) .number ⌝ }
+        ensures voice { λ r. ⌜ r .voice ≡ render self trigger knobs (now (out .entry)) .state ⌝ }
+        ensures out { λ _. ⌜ now (out .exit) ≡ render self trigger knobs (now (out .entry)) .out ⌝ }
     {
         let answer = knobs.asked(self.sample_rate_hz, out.len());
         match answer {
-            Answer::Refused(_) => Rendered {
+            Answer::Refused(_) => Answered {
                 answer,
                 voice: self,
-                noise,
             },
             Answer::Accepted => {
                 let settings = knobs.settings(self, out.len());
@@ -143,9 +136,11 @@ impl SyntheticSnareDrum {
                 // Two calls keep `run` a function of its own: as a part of this one its loop comes out slower by half.
                 if trigger {
                     let triggered = tuned.triggered(knobs.accent, knobs.decay);
-                    return triggered.run(noise, settings, out);
+                    let voice = triggered.run(settings, out);
+                    return Answered { answer, voice };
                 }
-                tuned.run(noise, settings, out)
+                let voice = tuned.run(settings, out);
+                Answered { answer, voice }
             }
         }
     }
@@ -187,32 +182,25 @@ impl SyntheticSnareDrum {
         }
     }
 
-    // The loop over the block of an accepted call.
-    fn run(self, mut noise: u32, settings: Settings, out: &mut [f32]) -> Rendered
-        ensures number { λ r. ⌜ answerNumber (r .answer) ≡ 0 ⌝ }
-        ensures voice { λ r. let n = length (now (out .entry)) in ⌜ r .voice ≡ after (spec.step settings n) n (noisy self noise) .voice ⌝ }
-        ensures noise { λ r. let n = length (now (out .entry)) in ⌜ r .noise ≡ after (spec.step settings n) n (noisy self noise) .noise ⌝ }
-        ensures out { λ _. let n = length (now (out .entry)) in ⌜ now (out .exit) ≡ samples (spec.step settings n) n (noisy self noise) ⌝ }
+    // The loop over the block.
+    fn run(self, settings: Settings, out: &mut [f32]) -> Self
+        ensures voice { λ r. let n = length (now (out .entry)) in ⌜ r ≡ after (spec.step settings n) n self ⌝ }
+        ensures out { λ _. let n = length (now (out .entry)) in ⌜ now (out .exit) ≡ samples (spec.step settings n) n self ⌝ }
     {
         let mut voice = self;
         let mut i = 0;
         while i < out.len() {
-            let turn = voice.step(noise, settings);
+            let turn = voice.step(settings);
             voice = turn.voice;
-            noise = turn.noise;
             out[i] = turn.sample;
             i += 1;
         }
-        Rendered {
-            answer: Answer::Accepted,
-            voice,
-            noise,
-        }
+        voice
     }
 
     // One turn of the loop.
-    fn step(self, noise: u32, settings: Settings) -> Turn
-        ensures { λ r. ⌜ ((size : ℕ) → spec.step settings size (noisy self noise) ≡ turned r) ⌝ }
+    fn step(self, settings: Settings) -> Turn
+        ensures { λ r. ⌜ ((size : ℕ) → spec.step settings size self ≡ turned r) ⌝ }
     {
         let v = self.enveloped(settings);
         let phase_0 = v.phase[0];
@@ -230,7 +218,7 @@ impl SyntheticSnareDrum {
         let sines = -0.1 + distorted_sine(phase_0) * 0.60 + distorted_sine(phase_1) * 0.25;
         let amplitude = v.drum_amplitude * settings.drum_level;
         let drum = v.drum_lp.process(sines * amplitude, FilterMode::LowPass);
-        let draw = random::get_float(noise);
+        let draw = random::get_float(v.noise);
         let low = v.snare_lp.process(draw.value, FilterMode::LowPass);
         let high = v.snare_hp.process(low.out, FilterMode::HighPass);
         let snare = (high.out + 0.1) * (v.snare_amplitude + v.fm) * settings.snare_level;
@@ -242,11 +230,11 @@ impl SyntheticSnareDrum {
             drum_lp,
             snare_hp,
             snare_lp,
+            noise: draw.word,
             ..v
         };
         Turn {
             voice,
-            noise: draw.word,
             sample: snare + drum.out,
         }
     }

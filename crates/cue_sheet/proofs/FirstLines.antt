@@ -1,17 +1,18 @@
--- The rate and the length of an accepted sheet lie between their bounds.
+-- The rate and the length of an accepted sheet lie between their bounds, and its lines after the first are accepted from there.
 use Prim.Native.Nat.{ℕ, _≤_}
 use native.Mathlib.Omega.{arith}
-use mathlib.Core.Path.{_≡_, refl, sym, _∙_}
+use mathlib.Core.Path.{_≡_, refl, sym, ap, _∙_}
 use mathlib.Core.Bool.{Bool, true, false, _&&_}
 use mathlib.Core.List.{List, [], _∷_}
 use lib.Dec.{leb}
+use lib.ListN.{drop}
 use borrow.Author.Tests.{leb-true}
-use Rattle.text.specs.Read.{ended, body, field, hasFields, decimal, lineAt}
+use Rattle.text.specs.Read.{ended, body, field, hasFields, decimal, lines, lineAt}
 use Rattle.text.specs.declared.read.Number.{Number}
 use Rattle.text.specs.declared.read.Number.the-variants.{Value, Invalid}
 use Rattle.text.proofs.Numeral.{decimal-read}
 use Rattle.cue_sheet.specs.Answer.{Told, says, refused, valid, value}
-use Rattle.cue_sheet.specs.Sheet.{SheetAnswer, accepted, refusedAt, onTold, readFirstLine, readLine, next, judgeFrom, judge}
+use Rattle.cue_sheet.specs.Sheet.{SheetAnswer, accepted, refusedAt, begin, onTold, readFirstLine, readLine, next, judgeFrom, judge}
 use Rattle.cue_sheet.specs.declared.Head.{Head}
 use Rattle.cue_sheet.specs.declared.Walk.{Walk}
 use Rattle.cue_sheet.proofs.Questions.{passed}
@@ -68,3 +69,12 @@ same-head w (line ∷ ls) h = sym (next-head w line) ∙ same-head (next w line)
 pub accepted-head : (sheet : List ℕ) {head : Head} {cues : ℕ} → judge sheet ≡ accepted head cues → HeadIn head
 unfolding judge
 accepted-head sheet h = let first = from _ _ _ _ (readFirstLine (lineAt 0 sheet)) h in rw (← same-head _ _ (first .goes)) (head-in _ (first .said))
+
+-- its lines after the first pass their questions, in the walk that this head begins
+pub accepted-lines : (sheet : List ℕ) {head : Head} {cues : ℕ} → judge sheet ≡ accepted head cues
+    → judgeFrom (begin head (lineAt 0 sheet)) (drop 1 (lines sheet)) ≡ accepted head cues
+unfolding judge
+accepted-lines sheet {head} {cues} h =
+    let first = from _ _ _ _ (readFirstLine (lineAt 0 sheet)) h in
+    let goes : judgeFrom (begin (first .it) (lineAt 0 sheet)) (drop 1 (lines sheet)) ≡ accepted head cues = first .goes in
+    ap (λ (k : Head). judgeFrom (begin k (lineAt 0 sheet)) (drop 1 (lines sheet))) (sym (same-head _ _ goes)) ∙ goes

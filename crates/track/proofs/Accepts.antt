@@ -1,21 +1,35 @@
 -- No call that a sheet makes of a voice is refused: a voice that is ready accepts each, and stays so.
-use Prim.Native.Nat.{ℕ, _-_, _≤_}
+use Prim.Native.Nat.{ℕ, _-_, _^_, _≤_}
 use native.Mathlib.Omega.{arith}
 use mathlib.Core.Path.{_≡_}
-use mathlib.Core.Bool.{Bool, true}
+use mathlib.Core.Bool.{Bool, true, false}
 use mathlib.Core.List.{List, [], _∷_}
 use mathlib.Core.Option.{Option, none, some, Option·elim}
 use lib.IntN.{pos}
-use lib.Ieee.{binary32, ofInt}
-use Rattle.refusal.specs.Refusal.{Call, isSampleRate}
+use lib.Ieee.{binary32, le, round, ofInt}
+use lib.Ieee.Back.{round-whole}
+use lib.Ieee.Order.{le-of-values}
+use lib.Ieee.Bits.{is-true}
+use Rattle.refusal.specs.Refusal.{isSampleRate, within}
 use Rattle.cue_sheet.specs.CueLine.{Strike}
 use Rattle.cue_sheet.specs.declared.Head.{Head}
+use Rattle.cue_sheet.proofs.FirstLines.{HeadIn}
 use Rattle.track.specs.Mix.{silence}
 use Rattle.track.specs.Track.{Render, Player, until, isOwn, latest, called, left, segmentsFrom, Accepted, NoneRefused}
 use Rattle.track.proofs.Mixed.{silence-length}
 use Rattle.track.proofs.Laws.{PlaysAt, Lawful}
 use Rattle.track.proofs.Cues.{CuesIn, until-in}
 
+-- ---- a sheet's rate is a sample rate
+whole-le : (m n : ℕ) → m ≤ n → n ≤ 2 ^ 24 → le (round binary32 false m 1) (round binary32 false n 1) ≡ true
+whole-le m n h small =
+    is-true _ (le-of-values _ _ m 1 n 1 (omega arith) (omega arith) (round-whole binary32 false m (omega arith)) (round-whole binary32 false n small) (omega arith))
+
+pub sheet-rate : (head : Head) → HeadIn head → isSampleRate (ofInt binary32 (pos (head .rate))) ≡ true
+unfolding isSampleRate within ofInt
+sheet-rate head h = rw (whole-le 16000 (head .rate) (h .lowest) (omega (arith, h .highest)), whole-le (head .rate) 96000 (h .highest) (omega arith))
+
+-- ---- the calls
 module _ {Voice : Type 0} (p : Player Voice) (laws : Lawful p) (length : ℕ) (short : length ≤ 16384) where
   latest-plays : (own before : Option (Render Voice)) → PlaysAt (laws .Ready) own → PlaysAt (laws .Ready) before → PlaysAt (laws .Ready) (latest own before)
   unfolding latest

@@ -3,13 +3,14 @@ use Prim.Native.Nat.{ℕ, zero, suc, _+_, _≤_, _<_}
 use native.Mathlib.Nat.{add-zero}
 use native.Mathlib.Omega.{arith}
 use mathlib.Core.Path.{_≡_, refl, sym, ap, _∙_}
-use mathlib.Core.List.{List, [], _∷_, append-nil}
-use lib.ListN.{length, getD, drop, set, length-replicate, getD-replicate}
+use mathlib.Core.List.{List, [], _∷_, map, append-nil}
+use mathlib.Core.Option.{some}
+use lib.ListN.{length, getD, drop, set, getD-replicate}
 use lib.Seq.{drop-length, getD-drop}
 use lib.Ieee.{Float, nan, binary32, add, ofBits, round}
 use Rattle.block.specs.Block.{Turn, scan}
 use Rattle.block.proofs.Blocks.{Going, begin, turn, end}
-use Rattle.cue_render.specs.Mix.{silence, added}
+use Rattle.track.specs.Mix.{silence, mixed}
 
 -- ---- a list is what the stage makes of it that hands every sample on
 abbrev pub copy : ℕ → Float → Turn ℕ
@@ -43,25 +44,15 @@ module _ {xs out₀ : List Float} (same : length xs ≡ length out₀) where
         ∙ rw (scan-copy 0 xs, same, drop-length out₀, append-nil xs)
 
 -- ---- silence
-pub silence-length : (n : ℕ) → length (silence n) ≡ n
-unfolding silence
-silence-length n = length-replicate n _
-
 pub silence-at : (n i : ℕ) → i < n → getD (silence n) i nan ≡ ofBits binary32 0
 unfolding silence ofBits round
 silence-at n i h = getD-replicate n i _ nan h
 
 -- ---- sums
-pub added-length : (xs ys : List Float) → length (added xs ys) ≡ length xs
-unfolding added
-added-length [] ys = refl
-added-length (x ∷ xs) [] = refl
-added-length (x ∷ xs) (y ∷ ys) = ap suc (added-length xs ys)
-
-pub added-at : (xs ys : List Float) (i : ℕ) → i < length xs → length ys ≡ length xs → {x : Float} → x ≡ getD xs i nan
-    → getD (added xs ys) i nan ≡ add binary32 x (getD ys i nan)
-unfolding added
-added-at [] ys i h same e = absurd (omega arith)
-added-at (x ∷ xs) [] i h same e = absurd (omega arith)
-added-at (x ∷ xs) (y ∷ ys) zero h same e = rw e
-added-at (x ∷ xs) (y ∷ ys) (suc i) h same e = added-at xs ys i (omega arith) (omega arith) e
+pub mixed-at : (xs ys : List Float) (i : ℕ) → i < length xs → length ys ≡ length xs → {x : Float} → x ≡ getD xs i nan
+    → getD (mixed xs (map some ys)) i nan ≡ add binary32 x (getD ys i nan)
+unfolding mixed
+mixed-at [] ys i h same e = absurd (omega arith)
+mixed-at (x ∷ xs) [] i h same e = absurd (omega arith)
+mixed-at (x ∷ xs) (y ∷ ys) zero h same e = rw e
+mixed-at (x ∷ xs) (y ∷ ys) (suc i) h same e = mixed-at xs ys i (omega arith) (omega arith) e

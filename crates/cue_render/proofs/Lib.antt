@@ -1,5 +1,4 @@
 -- The laws of `cue_render` beside the proofs of its functions.
 mod Fill
-mod Segment
-mod Walk
-mod NeverRefused
+mod Runs
+mod Pass

@@ -1,7 +1,6 @@
 -- The definitions of `cue_render`.
-pub mod Mix
-pub mod Part
-pub mod Played
-pub mod Kit
+pub mod Voices
 pub mod Render
 pub mod Calls
+pub mod OwnLines
+pub mod Run

@@ -1,7 +1,7 @@
 -- A cue sheet rendered into a buffer: the samples of an accepted sheet, the answer, and what the buffer holds. Definitions only.
-use Prim.Native.Nat.{ℕ, _-_}
+use Prim.Native.Nat.{ℕ}
 use mathlib.Core.Bool.{cond}
-use mathlib.Core.List.{List, [], _∷_, _++_}
+use mathlib.Core.List.{List, _++_}
 use lib.Dec.{leb}
 use lib.ListN as List
 use lib.ListN.{drop}
@@ -9,20 +9,17 @@ use lib.Ieee.{Float}
 use Rattle.cue_sheet.specs.CueLine.{Strike}
 use Rattle.cue_sheet.specs.Sheet.{SheetAnswer, accepted, refusedAt, judge, strikes}
 use Rattle.cue_sheet.specs.declared.Head.{Head}
-use Rattle.cue_render.specs.Kit.{start, segment, afterSegment, strike}
-use Rattle.cue_render.specs.declared.kit.Kit.{Kit}
+use Rattle.track.specs.Mix.{silence, mixed}
+use Rattle.track.specs.Track.{track}
+use Rattle.cue_render.specs.Voices.{bass, snare, syntheticSnare, hihat}
 
--- ---- the samples
-
--- from a place on, with a kit that has come so far: segment by segment, up to the start of each cue and then to the sheet's end.
--- (The scope calls a segment a stretch. One before a cue at 0 is empty; no voice is struck then, so nothing comes of it.)
-unfoldable pub samplesFrom : ℕ → Kit → ℕ → List Strike → List Float
-samplesFrom length k from [] = segment k (length - from)
-samplesFrom length k from (s ∷ ss) =
-    segment k (s .start - from) ++ samplesFrom length (strike (afterSegment k (s .start - from)) (s .cue)) (s .start) ss
-
+-- ---- the samples: each is 0.0 plus the struck voices in the order b, s, y, h
 unfoldable pub samples : Head → List Strike → List Float
-samples head strikes = samplesFrom (head .length) (start (head .rate)) 0 strikes
+samples head strikes =
+    let b = mixed (silence (head .length)) (track bass head strikes) in
+    let s = mixed b (track snare head strikes) in
+    let y = mixed s (track syntheticSnare head strikes) in
+    mixed y (track hihat head strikes)
 
 -- ---- the answer: that of the sheet, and last of all 11 with line 0 where the buffer has fewer places than the sheet has samples
 unfoldable pub inBuffer : ℕ → SheetAnswer → SheetAnswer

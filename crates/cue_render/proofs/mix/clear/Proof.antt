@@ -1,8 +1,9 @@
 -- A loop that fills the buffer towards silence.
 use Prim.Native.Nat.{_-_}
 use lib.ListN.{length}
-use Rattle.cue_render.specs.Mix.{silence}
-use Rattle.cue_render.proofs.Fill.{Filling, fill-begin, fill-turn, fill-end, silence-length, silence-at}
+use Rattle.track.specs.Mix.{silence}
+use Rattle.track.proofs.Mixed.{silence-length}
+use Rattle.cue_render.proofs.Fill.{Filling, fill-begin, fill-turn, fill-end, silence-at}
 use borrow.Author.Needs.{needs}
 use Rattle.cue_render.proofs.mix.clear.Statement.{statement}
 use Rattle.cue_render.proofs.mix.clear.Tie as tie

@@ -14,9 +14,9 @@
 // bool is 0 or 1.
 //
 // ANSWERS
-// A call that is not fit answers a number other than 0, and then the record, the noise state and the buffer are as they were. Ask for it
-// after every call. The first question that is not passed gives the number: a voice asks 1 to 5 in this order, a sheet 7, then of each
-// cue 10, 8, 9, 3, 4, 5, and 11 at the end. A NaN is no number, and -0.0 is 0.0.
+// A call that is not fit answers a number other than 0, and then the record and the buffer are as they were. Ask for it after every call.
+// The first question that is not passed gives the number: a voice asks 1 to 5 in this order, a sheet 7, then of each cue 10, 8, 9, 3, 4,
+// 5, and 11 at the end. A NaN is no number, and -0.0 is 0.0.
 //      1  the sample rate is not a number from 16000.0 to 96000.0
 //      2  the block has more than 16,384 samples
 //      3  f0, in cycles a sample, is not a number from 2^-20 to 0.5
@@ -33,14 +33,14 @@
 // SAMPLES ARE NOT LIMITED TO 1.0. A synthetic snare reached 110 in a sheet that is accepted. Limit before the converter.
 //
 // NOISE
-// A voice that draws noise takes the state of the generator and answers the next one. Hand it on from call to call. Any state will do;
-// sheets start from 33.
+// Each record of an analog snare, a synthetic snare or a hi-hat carries its own noise state, in its last field. `init` sets it to 33, and
+// `render` goes on from there. A knock on one voice does not change another's noise. Nothing needs to be passed on.
 //
 // BLOCKS
 // The lengths of the blocks do not change the sound. Where nothing sustains, no block but the first is triggered and the knobs stay, any
-// two ways to cut a sound into accepted blocks give the same samples and leave the same record and noise state, bit for bit; and the parts
-// of an accepted block are accepted. This is proved. A block may have 0 samples, and may still change the record. A sustained block is
-// excepted: its gain slides over the block's own length.
+// two ways to cut a sound into accepted blocks give the same samples and leave the same record, bit for bit, its noise state included; and
+// the parts of an accepted block are accepted. This is proved. A block may have 0 samples, and may still change the record. A sustained
+// block is excepted: its gain slides over the block's own length.
 //
 // POINTERS
 // A buffer crosses as a pointer to its first place and the number of its places. The pointer is not null, also where the number is 0.
@@ -370,23 +370,16 @@ typedef struct bechullpi_analog_snare_drum {
     bechullpi_svf noise_filter;
     uint32_t trigger_pulse_duration;
     uint32_t pulse_decay_time;
+    uint32_t noise;
 } bechullpi_analog_snare_drum;
-BECHULLPI_STATIC_ASSERT(sizeof(bechullpi_analog_snare_drum) == 148, "bechullpi_analog_snare_drum");
+BECHULLPI_STATIC_ASSERT(sizeof(bechullpi_analog_snare_drum) == 152, "bechullpi_analog_snare_drum");
 
 // The number of the refusal, 0 for an accepted call, and the voice after the call.
 typedef struct bechullpi_analog_snare_drum_answered {
     uint32_t number;
     bechullpi_analog_snare_drum voice;
 } bechullpi_analog_snare_drum_answered;
-BECHULLPI_STATIC_ASSERT(sizeof(bechullpi_analog_snare_drum_answered) == 152, "bechullpi_analog_snare_drum_answered");
-
-// The same, and the noise state after the call.
-typedef struct bechullpi_analog_snare_drum_rendered {
-    uint32_t number;
-    bechullpi_analog_snare_drum voice;
-    uint32_t noise;
-} bechullpi_analog_snare_drum_rendered;
-BECHULLPI_STATIC_ASSERT(sizeof(bechullpi_analog_snare_drum_rendered) == 156, "bechullpi_analog_snare_drum_rendered");
+BECHULLPI_STATIC_ASSERT(sizeof(bechullpi_analog_snare_drum_answered) == 156, "bechullpi_analog_snare_drum_answered");
 
 typedef struct bechullpi_analog_snare_drum_knobs {
     float f0;
@@ -403,8 +396,8 @@ bechullpi_analog_snare_drum bechullpi_analog_snare_drum_zero(void);
 bechullpi_analog_snare_drum_answered bechullpi_analog_snare_drum_init(bechullpi_analog_snare_drum voice, float sample_rate_hz);
 
 // Refused by 2, 3, 4 and 5.
-bechullpi_analog_snare_drum_rendered bechullpi_analog_snare_drum_render(
-    bechullpi_analog_snare_drum voice, uint32_t noise, bool trigger, float accent, bechullpi_analog_snare_drum_knobs knobs,
+bechullpi_analog_snare_drum_answered bechullpi_analog_snare_drum_render(
+    bechullpi_analog_snare_drum voice, bool trigger, float accent, bechullpi_analog_snare_drum_knobs knobs,
     float *out, size_t out_length
 );
 
@@ -422,23 +415,16 @@ typedef struct bechullpi_synthetic_snare_drum {
     bechullpi_one_pole drum_lp;
     bechullpi_one_pole snare_hp;
     bechullpi_svf snare_lp;
+    uint32_t noise;
 } bechullpi_synthetic_snare_drum;
-BECHULLPI_STATIC_ASSERT(sizeof(bechullpi_synthetic_snare_drum) == 76, "bechullpi_synthetic_snare_drum");
+BECHULLPI_STATIC_ASSERT(sizeof(bechullpi_synthetic_snare_drum) == 80, "bechullpi_synthetic_snare_drum");
 
 // The number of the refusal, 0 for an accepted call, and the voice after the call.
 typedef struct bechullpi_synthetic_snare_drum_answered {
     uint32_t number;
     bechullpi_synthetic_snare_drum voice;
 } bechullpi_synthetic_snare_drum_answered;
-BECHULLPI_STATIC_ASSERT(sizeof(bechullpi_synthetic_snare_drum_answered) == 80, "bechullpi_synthetic_snare_drum_answered");
-
-// The same, and the noise state after the call.
-typedef struct bechullpi_synthetic_snare_drum_rendered {
-    uint32_t number;
-    bechullpi_synthetic_snare_drum voice;
-    uint32_t noise;
-} bechullpi_synthetic_snare_drum_rendered;
-BECHULLPI_STATIC_ASSERT(sizeof(bechullpi_synthetic_snare_drum_rendered) == 84, "bechullpi_synthetic_snare_drum_rendered");
+BECHULLPI_STATIC_ASSERT(sizeof(bechullpi_synthetic_snare_drum_answered) == 84, "bechullpi_synthetic_snare_drum_answered");
 
 // The parameters of a block.
 typedef struct bechullpi_synthetic_snare_drum_knobs {
@@ -466,9 +452,8 @@ bechullpi_synthetic_snare_drum_answered bechullpi_synthetic_snare_drum_init(
 );
 
 // Refused by 1, of the rate that the voice stores, 2, 3, 4 and 5.
-bechullpi_synthetic_snare_drum_rendered bechullpi_synthetic_snare_drum_render(
-    bechullpi_synthetic_snare_drum voice, uint32_t noise, bool trigger, bechullpi_synthetic_snare_drum_knobs knobs,
-    float *out, size_t out_length
+bechullpi_synthetic_snare_drum_answered bechullpi_synthetic_snare_drum_render(
+    bechullpi_synthetic_snare_drum voice, bool trigger, bechullpi_synthetic_snare_drum_knobs knobs, float *out, size_t out_length
 );
 
 // -------------------------------------------------------------------------------------------------------------------------------
@@ -488,23 +473,16 @@ typedef struct bechullpi_hihat {
     bechullpi_square_noise square_noise;
     bechullpi_svf noise_coloration_svf;
     bechullpi_svf hpf;
+    uint32_t noise;
 } bechullpi_hihat;
-BECHULLPI_STATIC_ASSERT(sizeof(bechullpi_hihat) == 84, "bechullpi_hihat");
+BECHULLPI_STATIC_ASSERT(sizeof(bechullpi_hihat) == 88, "bechullpi_hihat");
 
 // The number of the refusal, 0 for an accepted call, and the voice after the call.
 typedef struct bechullpi_hihat_answered {
     uint32_t number;
     bechullpi_hihat voice;
 } bechullpi_hihat_answered;
-BECHULLPI_STATIC_ASSERT(sizeof(bechullpi_hihat_answered) == 88, "bechullpi_hihat_answered");
-
-// The same, and the noise state after the call.
-typedef struct bechullpi_hihat_rendered {
-    uint32_t number;
-    bechullpi_hihat voice;
-    uint32_t noise;
-} bechullpi_hihat_rendered;
-BECHULLPI_STATIC_ASSERT(sizeof(bechullpi_hihat_rendered) == 92, "bechullpi_hihat_rendered");
+BECHULLPI_STATIC_ASSERT(sizeof(bechullpi_hihat_answered) == 92, "bechullpi_hihat_answered");
 
 // The parameters of `render`, but for the trigger and the kind of the VCA.
 typedef struct bechullpi_hihat_knobs {
@@ -534,8 +512,8 @@ bechullpi_hihat bechullpi_hihat_zero(void);
 bechullpi_hihat_answered bechullpi_hihat_init(bechullpi_hihat voice, float sample_rate);
 
 // Refused by 1, of the rate that the voice stores, 2, 3, 4 and 5. The VCA is the swing one unless `linear` is set.
-bechullpi_hihat_rendered bechullpi_hihat_render(
-    bechullpi_hihat voice, uint32_t noise, bool trigger, bool linear, bechullpi_hihat_knobs knobs, float *out, size_t out_length
+bechullpi_hihat_answered bechullpi_hihat_render(
+    bechullpi_hihat voice, bool trigger, bool linear, bechullpi_hihat_knobs knobs, float *out, size_t out_length
 );
 
 bechullpi_square_noise bechullpi_hihat_square_noise_zero(void);

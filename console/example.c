@@ -11,13 +11,12 @@ enum { BLOCK = 64, BLOCKS = 750 }; // a second
 enum { CUE = 14400 };              // 0.3 seconds
 static const float RATE = 48000.0f;
 
-// What the console keeps between blocks: the records, and the state of the noise that they draw from.
+// What the console keeps between blocks: the records. Each voice that draws noise has the state of it in its own.
 typedef struct {
     bechullpi_analog_bass_drum bass;
     bechullpi_analog_snare_drum snare;
     bechullpi_synthetic_snare_drum synthetic_snare;
     bechullpi_hihat hihat;
-    uint32_t noise;
 } kit;
 
 // The stick, asked once a block: what the crawler met, and how fast it went, from 0 to 1.
@@ -50,11 +49,11 @@ static uint32_t start(kit *k)
     bechullpi_analog_snare_drum_answered s = bechullpi_analog_snare_drum_init(bechullpi_analog_snare_drum_zero(), RATE);
     bechullpi_synthetic_snare_drum_answered y = bechullpi_synthetic_snare_drum_init(bechullpi_synthetic_snare_drum_zero(), RATE);
     bechullpi_hihat_answered h = bechullpi_hihat_init(bechullpi_hihat_zero(), RATE);
-    *k = (kit){b.voice, s.voice, y.voice, h.voice, 33};
+    *k = (kit){b.voice, s.voice, y.voice, h.voice};
     return b.number ? b.number : s.number ? s.number : y.number ? y.number : h.number;
 }
 
-// One block of every voice, each into its own part. The noise goes from voice to voice; a refused call leaves record, noise and part as they were.
+// One block of every voice, each into its own part. No voice hears of another; a refused call leaves record and part as they were.
 static uint32_t render(kit *k, stick now, float part[4][BLOCK])
 {
     float accent = 0.5f + 0.5f * now.speed;
@@ -62,18 +61,18 @@ static uint32_t render(kit *k, stick now, float part[4][BLOCK])
         k->bass, now.joint, accent,
         (bechullpi_analog_bass_drum_knobs){.f0 = 55.0f / RATE, .tone = 0.3f, .decay = 0.5f, .attack_fm_amount = 0.4f, .self_fm_amount = 0.2f},
         part[0], BLOCK);
-    bechullpi_analog_snare_drum_rendered s = bechullpi_analog_snare_drum_render(
-        k->snare, k->noise, now.grit, accent,
+    bechullpi_analog_snare_drum_answered s = bechullpi_analog_snare_drum_render(
+        k->snare, now.grit, accent,
         (bechullpi_analog_snare_drum_knobs){.f0 = 180.0f / RATE, .tone = 0.4f, .decay = 0.3f, .snappy = 0.7f}, part[1], BLOCK);
-    bechullpi_synthetic_snare_drum_rendered y = bechullpi_synthetic_snare_drum_render(
-        k->synthetic_snare, s.noise, now.stone,
+    bechullpi_synthetic_snare_drum_answered y = bechullpi_synthetic_snare_drum_render(
+        k->synthetic_snare, now.stone,
         (bechullpi_synthetic_snare_drum_knobs){.accent = accent, .f0 = 210.0f / RATE, .fm_amount = 0.5f, .decay = 0.4f, .snappy = 0.8f},
         part[2], BLOCK);
-    bechullpi_hihat_rendered h = bechullpi_hihat_render(
-        k->hihat, y.noise, now.slip, BECHULLPI_SWING_VCA,
+    bechullpi_hihat_answered h = bechullpi_hihat_render(
+        k->hihat, now.slip, BECHULLPI_SWING_VCA,
         (bechullpi_hihat_knobs){.accent = accent, .f0 = 420.0f / RATE, .tone = 0.6f, .decay = 0.4f, .noisiness = 0.5f, .resonance = true},
         part[3], BLOCK);
-    *k = (kit){b.voice, s.voice, y.voice, h.voice, h.noise};
+    *k = (kit){b.voice, s.voice, y.voice, h.voice};
     return b.number ? b.number : s.number ? s.number : y.number ? y.number : h.number;
 }
 
@@ -106,7 +105,8 @@ static uint32_t ride(kit *k)
             return number;
         put_out(&all, part);
     }
-    printf("%d samples, digest %08" PRIx32 ", noise %08" PRIx32 "\n", BLOCK * BLOCKS, all.digest, k->noise);
+    printf("%d samples, digest %08" PRIx32 "\n", BLOCK * BLOCKS, all.digest);
+    printf("noise %08" PRIx32 ", %08" PRIx32 " and %08" PRIx32 "\n", k->snare.noise, k->synthetic_snare.noise, k->hihat.noise);
     printf("%" PRIu32 " were limited, the largest was %.6f\n", all.limited, all.largest);
     return 0;
 }
@@ -116,27 +116,26 @@ static void be_refused(const kit *k)
 {
     float out[BLOCK] = {0.25f}, before[BLOCK] = {0.25f};
     bechullpi_hihat_knobs knobs = {.accent = 1.5f, .f0 = 0.01f, .tone = 0.5f, .decay = 0.5f, .noisiness = 0.5f};
-    bechullpi_hihat_rendered h = bechullpi_hihat_render(k->hihat, k->noise, true, BECHULLPI_LINEAR_VCA, knobs, out, BLOCK);
-    bool kept = memcmp(&h.voice, &k->hihat, sizeof h.voice) == 0 && h.noise == k->noise && memcmp(out, before, sizeof out) == 0;
+    bechullpi_hihat_answered h = bechullpi_hihat_render(k->hihat, true, BECHULLPI_LINEAR_VCA, knobs, out, BLOCK);
+    bool kept = memcmp(&h.voice, &k->hihat, sizeof h.voice) == 0 && memcmp(out, before, sizeof out) == 0;
     printf("an accent of 1.5 is refused by %" PRIu32 "; the rest is %s\n", h.number, kept ? "as it was" : "CHANGED");
 }
 
 // One cue in blocks of a length, the last one shorter where that does not divide: the first block is triggered, the others are not, the knobs stay, and
-// record and noise are handed on. Nothing is sustained, so it is the same cue at every length from 1 to 16,384.
+// the record is handed on. Nothing is sustained, so it is the same cue at every length from 1 to 16,384.
 static void play_cue(size_t length)
 {
     static float out[CUE];
     bechullpi_hihat_knobs knobs = {.accent = 0.8f, .f0 = 420.0f / RATE, .tone = 0.6f, .decay = 0.6f, .noisiness = 0.5f, .resonance = true};
-    bechullpi_hihat_answered a = bechullpi_hihat_init(bechullpi_hihat_zero(), RATE);
-    bechullpi_hihat_rendered h = {a.number, a.voice, 33};
+    bechullpi_hihat_answered h = bechullpi_hihat_init(bechullpi_hihat_zero(), RATE);
     for (size_t at = 0; at < CUE && h.number == 0; at += length) {
         size_t left = CUE - at;
-        h = bechullpi_hihat_render(h.voice, h.noise, at == 0, BECHULLPI_SWING_VCA, knobs, out + at, left < length ? left : length);
+        h = bechullpi_hihat_render(h.voice, at == 0, BECHULLPI_SWING_VCA, knobs, out + at, left < length ? left : length);
     }
     uint32_t d = 2166136261u;
     for (int i = 0; i < CUE; i++)
         d = digest(d, out[i]);
-    printf("a cue in blocks of %zu is answered %" PRIu32 ": digest %08" PRIx32 ", noise %08" PRIx32 "\n", length, h.number, d, h.noise);
+    printf("a cue in blocks of %zu is answered %" PRIu32 ": digest %08" PRIx32 ", noise %08" PRIx32 "\n", length, h.number, d, h.voice.noise);
 }
 
 // A whole sheet in one call: sheets/joint.csv.

@@ -7,13 +7,13 @@
 //     V   b s y h: analog bass drum, analog snare drum, synthetic snare drum, hi-hat
 //     K   n, a record with every field zero; i, init; r, render
 //     FF  flags: 1 sustain, 2 trigger, 4 linear VCA, 8 resonance, 10 two-stage envelope
-//     N   samples        W   patterns of floats        S   the noise state before the call, and after it
+//     N   samples        W   patterns of floats        S   the noise state of the voice's record after the call, 0 for b; that of a row is not read
 //     R   the number of the refusal, 00 for an accepted call        D, T   the digests of the samples and of the voice's state
 //
 // The words of `init` are the rate and five that it does not read; those of `render` are accent, f0, a, decay, c and the bass drum's self_fm_amount (for the other
 // voices a word that they do not read), with a and c as on a cue line. Flags that a voice has no use for change nothing. Calls `n` and `i` render nothing, whatever
-// their N, and hand the noise state back. An N above 00004001, flags above 1f and a last line without its line end are malformed, as any other text that is no row:
-// such a line gets `refused,8,K`, K its number from 1, and ends the run.
+// their N. An N above 00004001, flags above 1f and a last line without its line end are malformed, as any other text that is no row: such a line gets
+// `refused,8,K`, K its number from 1, and ends the run.
 #include "bechullpi.h"
 
 #include <inttypes.h>
@@ -29,7 +29,6 @@ typedef struct {
     bool sustain, trigger, linear, resonance, two_stage_envelope;
     size_t samples;
     float words[WORDS];
-    uint32_t noise;
 } row;
 
 typedef struct {
@@ -73,15 +72,16 @@ static bool is_one_of(const char *letters, char c)
     return c != '\0' && strchr(letters, c) != NULL;
 }
 
+// Behind the words are the digits of S: the records have their noise states, so it is only seen that these are digits.
 static bool read_words(const char *line, row *r)
 {
+    uint32_t word;
     for (size_t i = 0; i < WORDS; i++) {
-        uint32_t word;
         if (!number(line + 16 + 9 * i, 8, &word))
             return false;
         memcpy(&r->words[i], &word, sizeof word);
     }
-    return number(line + 70, 8, &r->noise);
+    return number(line + 70, 8, &word);
 }
 
 // Whether a line of ROW_BYTES is a row, and the row.
@@ -103,7 +103,7 @@ static bool read_row(const char *line, row *r)
     return read_words(line, r);
 }
 
-// Digests of 32 bits. That of a state has the fields in their order, nested ones in place.
+// Digests of 32 bits. That of a state has the fields in their order, nested ones in place, without the noise state, which the answer has by itself.
 
 static const uint32_t START = 2166136261u; // of no word
 
@@ -199,7 +199,7 @@ static reply render_bass(bechullpi_analog_bass_drum *v, const row *r)
     bechullpi_analog_bass_drum_knobs knobs = {.f0 = w[1], .tone = w[2], .decay = w[3], .attack_fm_amount = w[4], .self_fm_amount = w[5]};
     bechullpi_analog_bass_drum_answered a = bechullpi_analog_bass_drum_render(*v, r->trigger, w[0], knobs, out, r->samples);
     *v = a.voice;
-    return (reply){a.number, r->noise, of_rendered(a.number, r->samples), of_bass(v)};
+    return (reply){a.number, 0, of_rendered(a.number, r->samples), of_bass(v)};
 }
 
 static reply play_bass(bechullpi_analog_bass_drum *v, const row *r)
@@ -210,16 +210,16 @@ static reply play_bass(bechullpi_analog_bass_drum *v, const row *r)
     if (r->call == 'i')
         a = bechullpi_analog_bass_drum_init(*v, r->words[0]);
     *v = a.voice;
-    return (reply){a.number, r->noise, START, of_bass(v)};
+    return (reply){a.number, 0, START, of_bass(v)};
 }
 
 static reply render_snare(bechullpi_analog_snare_drum *v, const row *r)
 {
     const float *w = r->words;
     bechullpi_analog_snare_drum_knobs knobs = {.f0 = w[1], .tone = w[2], .decay = w[3], .snappy = w[4]};
-    bechullpi_analog_snare_drum_rendered a = bechullpi_analog_snare_drum_render(*v, r->noise, r->trigger, w[0], knobs, out, r->samples);
+    bechullpi_analog_snare_drum_answered a = bechullpi_analog_snare_drum_render(*v, r->trigger, w[0], knobs, out, r->samples);
     *v = a.voice;
-    return (reply){a.number, a.noise, of_rendered(a.number, r->samples), of_snare(v)};
+    return (reply){a.number, v->noise, of_rendered(a.number, r->samples), of_snare(v)};
 }
 
 static reply play_snare(bechullpi_analog_snare_drum *v, const row *r)
@@ -230,7 +230,7 @@ static reply play_snare(bechullpi_analog_snare_drum *v, const row *r)
     if (r->call == 'i')
         a = bechullpi_analog_snare_drum_init(*v, r->words[0]);
     *v = a.voice;
-    return (reply){a.number, r->noise, START, of_snare(v)};
+    return (reply){a.number, v->noise, START, of_snare(v)};
 }
 
 static reply render_synthetic_snare(bechullpi_synthetic_snare_drum *v, const row *r)
@@ -238,9 +238,9 @@ static reply render_synthetic_snare(bechullpi_synthetic_snare_drum *v, const row
     const float *w = r->words;
     bechullpi_synthetic_snare_drum_knobs knobs = {
         .sustain = r->sustain, .accent = w[0], .f0 = w[1], .fm_amount = w[2], .decay = w[3], .snappy = w[4]};
-    bechullpi_synthetic_snare_drum_rendered a = bechullpi_synthetic_snare_drum_render(*v, r->noise, r->trigger, knobs, out, r->samples);
+    bechullpi_synthetic_snare_drum_answered a = bechullpi_synthetic_snare_drum_render(*v, r->trigger, knobs, out, r->samples);
     *v = a.voice;
-    return (reply){a.number, a.noise, of_rendered(a.number, r->samples), of_synthetic_snare(v)};
+    return (reply){a.number, v->noise, of_rendered(a.number, r->samples), of_synthetic_snare(v)};
 }
 
 static reply play_synthetic_snare(bechullpi_synthetic_snare_drum *v, const row *r)
@@ -251,7 +251,7 @@ static reply play_synthetic_snare(bechullpi_synthetic_snare_drum *v, const row *
     if (r->call == 'i')
         a = bechullpi_synthetic_snare_drum_init(*v, r->words[0]);
     *v = a.voice;
-    return (reply){a.number, r->noise, START, of_synthetic_snare(v)};
+    return (reply){a.number, v->noise, START, of_synthetic_snare(v)};
 }
 
 static reply render_hihat(bechullpi_hihat *v, const row *r)
@@ -259,9 +259,9 @@ static reply render_hihat(bechullpi_hihat *v, const row *r)
     const float *w = r->words;
     bechullpi_hihat_knobs knobs = {.sustain = r->sustain, .accent = w[0], .f0 = w[1], .tone = w[2], .decay = w[3], .noisiness = w[4],
                                    .resonance = r->resonance, .two_stage_envelope = r->two_stage_envelope};
-    bechullpi_hihat_rendered a = bechullpi_hihat_render(*v, r->noise, r->trigger, r->linear, knobs, out, r->samples);
+    bechullpi_hihat_answered a = bechullpi_hihat_render(*v, r->trigger, r->linear, knobs, out, r->samples);
     *v = a.voice;
-    return (reply){a.number, a.noise, of_rendered(a.number, r->samples), of_hihat(v)};
+    return (reply){a.number, v->noise, of_rendered(a.number, r->samples), of_hihat(v)};
 }
 
 static reply play_hihat(bechullpi_hihat *v, const row *r)
@@ -272,7 +272,7 @@ static reply play_hihat(bechullpi_hihat *v, const row *r)
     if (r->call == 'i')
         a = bechullpi_hihat_init(*v, r->words[0]);
     *v = a.voice;
-    return (reply){a.number, r->noise, START, of_hihat(v)};
+    return (reply){a.number, v->noise, START, of_hihat(v)};
 }
 
 static reply play(voices *v, const row *r)

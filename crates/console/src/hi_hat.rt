@@ -2,7 +2,6 @@
 ghost use mathlib.Core.Path.{_≡_};
 ghost use lib.ListN.{length};
 ghost use Rattle.block.specs.Block.{samples, after};
-ghost use Rattle.refusal.specs.Refusal.{noisy};
 ghost use Rattle.hihat.specs.SquareNoise as square;
 ghost use Rattle.hihat.specs.Hihat as spec;
 ghost use Rattle.console.specs.Enums.{vcaType};
@@ -16,14 +15,6 @@ use hihat::SquareNoise;
 pub struct HihatAnswered {
     pub number: u32,
     pub voice: Hihat,
-}
-
-// The same, and the noise state after the call.
-#[repr(C)]
-pub struct HihatRendered {
-    pub number: u32,
-    pub voice: Hihat,
-    pub noise: u32,
 }
 
 // Every field zero, for `init` to overwrite.
@@ -53,24 +44,21 @@ pub extern "C" fn bechullpi_hihat_init(voice: Hihat, sample_rate: f32) -> HihatA
 #[no_mangle]
 pub extern "C" fn bechullpi_hihat_render(
     voice: Hihat,
-    noise: u32,
     trigger: bool,
     linear: bool,
     knobs: Knobs,
     out: &mut [f32],
-) -> HihatRendered
-    ensures number { λ r. ⌜ r .number ≡ spec.render (noisy voice noise) trigger (vcaType linear) knobs (now (out .entry)) .number ⌝ }
-    ensures voice { λ r. ⌜ r .voice ≡ spec.render (noisy voice noise) trigger (vcaType linear) knobs (now (out .entry)) .state .voice ⌝ }
-    ensures noise { λ r. ⌜ r .noise ≡ spec.render (noisy voice noise) trigger (vcaType linear) knobs (now (out .entry)) .state .noise ⌝ }
-    ensures out { λ _. ⌜ now (out .exit) ≡ spec.render (noisy voice noise) trigger (vcaType linear) knobs (now (out .entry)) .out ⌝ }
+) -> HihatAnswered
+    ensures number { λ r. ⌜ r .number ≡ spec.render voice trigger (vcaType linear) knobs (now (out .entry)) .number ⌝ }
+    ensures voice { λ r. ⌜ r .voice ≡ spec.render voice trigger (vcaType linear) knobs (now (out .entry)) .state ⌝ }
+    ensures out { λ _. ⌜ now (out .exit) ≡ spec.render voice trigger (vcaType linear) knobs (now (out .entry)) .out ⌝ }
 {
-    let a = voice.render(noise, trigger, enums::vca_type(linear), knobs, out);
+    let a = voice.render(trigger, enums::vca_type(linear), knobs, out);
     let answer = a.answer;
     let voice = a.voice;
-    HihatRendered {
+    HihatAnswered {
         number: answer.number(),
         voice,
-        noise: a.noise,
     }
 }
 

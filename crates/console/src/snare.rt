@@ -1,6 +1,5 @@
 // The 808 snare drum.
 ghost use mathlib.Core.Path.{_≡_};
-ghost use Rattle.refusal.specs.Refusal.{noisy};
 ghost use Rattle.analog_snare_drum.specs.AnalogSnareDrum as spec;
 use analog_snare_drum::AnalogSnareDrum;
 use analog_snare_drum::Knobs;
@@ -10,14 +9,6 @@ use analog_snare_drum::Knobs;
 pub struct AnalogSnareDrumAnswered {
     pub number: u32,
     pub voice: AnalogSnareDrum,
-}
-
-// The same, and the noise state after the call.
-#[repr(C)]
-pub struct AnalogSnareDrumRendered {
-    pub number: u32,
-    pub voice: AnalogSnareDrum,
-    pub noise: u32,
 }
 
 // Every field zero, for `init` to overwrite.
@@ -50,23 +41,20 @@ pub extern "C" fn bechullpi_analog_snare_drum_init(
 #[no_mangle]
 pub extern "C" fn bechullpi_analog_snare_drum_render(
     voice: AnalogSnareDrum,
-    noise: u32,
     trigger: bool,
     accent: f32,
     knobs: Knobs,
     out: &mut [f32],
-) -> AnalogSnareDrumRendered
-    ensures number { λ r. ⌜ r .number ≡ spec.render (noisy voice noise) trigger accent knobs (now (out .entry)) .number ⌝ }
-    ensures voice { λ r. ⌜ r .voice ≡ spec.render (noisy voice noise) trigger accent knobs (now (out .entry)) .state .voice ⌝ }
-    ensures noise { λ r. ⌜ r .noise ≡ spec.render (noisy voice noise) trigger accent knobs (now (out .entry)) .state .noise ⌝ }
-    ensures out { λ _. ⌜ now (out .exit) ≡ spec.render (noisy voice noise) trigger accent knobs (now (out .entry)) .out ⌝ }
+) -> AnalogSnareDrumAnswered
+    ensures number { λ r. ⌜ r .number ≡ spec.render voice trigger accent knobs (now (out .entry)) .number ⌝ }
+    ensures voice { λ r. ⌜ r .voice ≡ spec.render voice trigger accent knobs (now (out .entry)) .state ⌝ }
+    ensures out { λ _. ⌜ now (out .exit) ≡ spec.render voice trigger accent knobs (now (out .entry)) .out ⌝ }
 {
-    let a = voice.render(noise, trigger, accent, knobs, out);
+    let a = voice.render(trigger, accent, knobs, out);
     let answer = a.answer;
     let voice = a.voice;
-    AnalogSnareDrumRendered {
+    AnalogSnareDrumAnswered {
         number: answer.number(),
         voice,
-        noise: a.noise,
     }
 }

@@ -1,6 +1,5 @@
 // The synthetic snare drum.
 ghost use mathlib.Core.Path.{_≡_};
-ghost use Rattle.refusal.specs.Refusal.{noisy};
 ghost use Rattle.synthetic_snare_drum.specs.SyntheticSnareDrum as spec;
 use synthetic_snare_drum::Knobs;
 use synthetic_snare_drum::SyntheticSnareDrum;
@@ -10,14 +9,6 @@ use synthetic_snare_drum::SyntheticSnareDrum;
 pub struct SyntheticSnareDrumAnswered {
     pub number: u32,
     pub voice: SyntheticSnareDrum,
-}
-
-// The same, and the noise state after the call.
-#[repr(C)]
-pub struct SyntheticSnareDrumRendered {
-    pub number: u32,
-    pub voice: SyntheticSnareDrum,
-    pub noise: u32,
 }
 
 // Every field zero, for `init` to overwrite.
@@ -50,22 +41,19 @@ pub extern "C" fn bechullpi_synthetic_snare_drum_init(
 #[no_mangle]
 pub extern "C" fn bechullpi_synthetic_snare_drum_render(
     voice: SyntheticSnareDrum,
-    noise: u32,
     trigger: bool,
     knobs: Knobs,
     out: &mut [f32],
-) -> SyntheticSnareDrumRendered
-    ensures number { λ r. ⌜ r .number ≡ spec.render (noisy voice noise) trigger knobs (now (out .entry)) .number ⌝ }
-    ensures voice { λ r. ⌜ r .voice ≡ spec.render (noisy voice noise) trigger knobs (now (out .entry)) .state .voice ⌝ }
-    ensures noise { λ r. ⌜ r .noise ≡ spec.render (noisy voice noise) trigger knobs (now (out .entry)) .state .noise ⌝ }
-    ensures out { λ _. ⌜ now (out .exit) ≡ spec.render (noisy voice noise) trigger knobs (now (out .entry)) .out ⌝ }
+) -> SyntheticSnareDrumAnswered
+    ensures number { λ r. ⌜ r .number ≡ spec.render voice trigger knobs (now (out .entry)) .number ⌝ }
+    ensures voice { λ r. ⌜ r .voice ≡ spec.render voice trigger knobs (now (out .entry)) .state ⌝ }
+    ensures out { λ _. ⌜ now (out .exit) ≡ spec.render voice trigger knobs (now (out .entry)) .out ⌝ }
 {
-    let a = voice.render(noise, trigger, knobs, out);
+    let a = voice.render(trigger, knobs, out);
     let answer = a.answer;
     let voice = a.voice;
-    SyntheticSnareDrumRendered {
+    SyntheticSnareDrumAnswered {
         number: answer.number(),
         voice,
-        noise: a.noise,
     }
 }

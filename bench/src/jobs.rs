@@ -24,6 +24,7 @@ pub type Run = Box<dyn FnMut(&mut [f32])>;
 
 /// As many as the longest block has: a third of a second.
 const SAMPLES: usize = 16384;
+/// The noise state that the port's init sets: the published generator is seeded with it.
 const NOISE: u32 = 33;
 const RATE: f32 = 48000.0;
 
@@ -87,10 +88,8 @@ fn bass_rust(rate: f32, knobs: Knobs, blocks: u32, out: &mut [f32]) {
 fn snare_port(rate: f32, knobs: Knobs, blocks: u32, out: &mut [f32]) {
     let mut voice = port::bechullpi_analog_snare_drum_init(port::bechullpi_analog_snare_drum_zero(), rate).voice;
     let (accent, record) = (knobs[0], port::snare_knobs(knobs));
-    let mut noise = NOISE;
     for i in 0..blocks {
-        let r = port::snare_render(voice, noise, i == 0, black_box(accent), black_box(record), out);
-        (voice, noise) = (r.voice, r.noise);
+        voice = port::snare_render(voice, i == 0, black_box(accent), black_box(record), out).voice;
     }
 }
 
@@ -107,10 +106,8 @@ fn snare_rust(rate: f32, knobs: Knobs, blocks: u32, out: &mut [f32]) {
 fn synthetic_snare_port(rate: f32, knobs: Knobs, blocks: u32, out: &mut [f32]) {
     let mut voice = port::bechullpi_synthetic_snare_drum_init(port::bechullpi_synthetic_snare_drum_zero(), rate).voice;
     let record = port::synthetic_snare_knobs(false, knobs);
-    let mut noise = NOISE;
     for i in 0..blocks {
-        let r = port::synthetic_snare_render(voice, noise, i == 0, black_box(record), out);
-        (voice, noise) = (r.voice, r.noise);
+        voice = port::synthetic_snare_render(voice, i == 0, black_box(record), out).voice;
     }
 }
 
@@ -127,10 +124,8 @@ fn synthetic_snare_rust(rate: f32, knobs: Knobs, blocks: u32, out: &mut [f32]) {
 fn hihat_port(rate: f32, knobs: Knobs, blocks: u32, out: &mut [f32]) {
     let mut voice = port::bechullpi_hihat_init(port::bechullpi_hihat_zero(), rate).voice;
     let record = port::hihat_knobs([false, true, false], knobs);
-    let mut noise = NOISE;
     for i in 0..blocks {
-        let r = port::hihat_render(voice, noise, [i == 0, black_box(false)], black_box(record), out);
-        (voice, noise) = (r.voice, r.noise);
+        voice = port::hihat_render(voice, [i == 0, black_box(false)], black_box(record), out).voice;
     }
 }
 
@@ -151,7 +146,7 @@ fn hihat_rust(block: usize) -> impl FnMut(f32, Knobs, u32, &mut [f32]) {
     }
 }
 
-/// 64 cues, the voices in turn, read from its bytes and rendered.
+/// 64 cues, the voices in turn, read from its bytes and rendered. The published generator is seeded anew for each block, since each voice draws from its own state.
 fn full_sheet() -> Job {
     let mut text = format!("48000,{SAMPLES}\n");
     for i in 0..64 {

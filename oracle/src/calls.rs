@@ -44,7 +44,7 @@ pub fn rate(r: &mut Random) -> f32 {
     }
 }
 
-pub fn f0(r: &mut Random) -> f32 {
+fn f0(r: &mut Random) -> f32 {
     match r.below(8) {
         0 => r.of(&[LEAST_F0, 0.5, 0.125, 0.499]),
         1 => f32::from_bits(0x3580_0000 + r.below(0x3f00_0001 - 0x3580_0000)),
@@ -53,7 +53,7 @@ pub fn f0(r: &mut Random) -> f32 {
     }
 }
 
-pub fn knob(r: &mut Random) -> f32 {
+fn knob(r: &mut Random) -> f32 {
     match r.below(8) {
         0 => r.of(&[0.0, -0.0, 1.0]),
         // 0.666667 is where the snare's gains change
@@ -64,7 +64,7 @@ pub fn knob(r: &mut Random) -> f32 {
 }
 
 /// A bass rings longer than the other voices: up to 2.0.
-pub fn decay(r: &mut Random, voice: char) -> f32 {
+fn decay(r: &mut Random, voice: char) -> f32 {
     if voice != 'b' {
         return knob(r);
     }
@@ -74,6 +74,11 @@ pub fn decay(r: &mut Random, voice: char) -> f32 {
         2 | 3 => 2.0 * r.unit(),
         _ => knob(r),
     }
+}
+
+/// accent, f0, a, decay and c of a cue or a block, each in its range.
+pub fn knobs(r: &mut Random, voice: char) -> [f32; 5] {
+    [knob(r), f0(r), knob(r), decay(r, voice), knob(r)]
 }
 
 fn outside(r: &mut Random) -> f32 {
@@ -107,15 +112,17 @@ pub fn script(r: &mut Random, voice: char, longest: u32) -> Vec<Row> {
 
 /// One call. Of eight renders one has a knob that may be out of range.
 pub fn row(r: &mut Random, voice: char, kind: Kind, longest: u32) -> Row {
-    let noise = if r.one_in(8) { 33 } else { r.word() };
-    let mut row = Row { voice, kind, flags: 0, samples: 0, knobs: [0.0; 6], noise };
+    // any word, so that a call that read it would be told; drawn as when it was the noise state, so that the recorded rows stay
+    let unread = if r.one_in(8) { 33 } else { r.word() };
+    let mut row = Row { voice, kind, flags: 0, samples: 0, knobs: [0.0; 6], unread };
     match kind {
         Kind::Zero => {}
         Kind::Init => row.knobs[0] = rate(r),
         Kind::Render => {
             row.flags = (r.word() & 0x1f) as u8;
             row.samples = length(r, longest);
-            row.knobs = [knob(r), f0(r), knob(r), decay(r, voice), knob(r), if voice == 'b' { knob(r) } else { 0.0 }];
+            let [accent, f0, a, decay, c] = knobs(r, voice);
+            row.knobs = [accent, f0, a, decay, c, if voice == 'b' { knob(r) } else { 0.0 }];
             if r.one_in(8) {
                 let which = r.below(if voice == 'b' { 6 } else { 5 }) as usize;
                 row.knobs[which] = if voice == 'b' && r.one_in(4) { 2.0f32.next_up() } else { outside(r) };

@@ -49,7 +49,7 @@ fn compare_any(voice: char, blocks: u32) -> u64 {
 /// In a third of them every word is of any pattern. As floats these are mostly huge or next to nothing, so in the others one word in 8, or in 64, is
 /// any float, and the rest are floats that a signal may have, or small numbers for a counter to run out. With a rate that is refused there is no block
 /// to cut.
-fn any_records(r: &mut Random) -> Records {
+pub fn any_records(r: &mut Random) -> Records {
     let wild = r.of(&[1, 8, 64]);
     Records::of_words(rate(r), || {
         if wild == 1 {
@@ -85,7 +85,7 @@ impl Cuts {
         if whole.iter().any(|side| *side != parts) {
             self.differ += 1;
             if self.differ <= 5 {
-                println!("call {row} from {:08x?}", from.state(row.voice));
+                println!("call {row} from {:08x?}", from.left(row.voice, 0));
                 whole.iter().for_each(|side| println!("whole {:?}", side.played));
                 println!("parts {:?}, of {lengths:?}", parts.played);
             }
@@ -121,15 +121,14 @@ fn each_part(mut out: &mut [f32], lengths: &[u32], mut play: impl FnMut(&mut [f3
     }
 }
 
-/// The block of a row in blocks of these lengths: record and noise state are handed on, the knobs stay, the trigger is the first one's.
+/// The block of a row in blocks of these lengths: the record is handed on, the knobs stay, the trigger is the first one's.
 fn in_parts(mut port: Records, row: &Row, lengths: &[u32], out: &mut [f32]) -> Played {
     let (mut part, mut refusal) = (*row, 0);
     each_part(out, lengths, |now| {
-        let (number, noise) = port.render(&part, now);
-        part = Row { flags: row.flags & !TRIGGER, noise, ..part };
-        refusal = refusal.max(number);
+        refusal = refusal.max(port.render(&part, now));
+        part.flags &= !TRIGGER;
     });
-    Played { refusal, noise: part.noise, state: port.state(row.voice) }
+    port.left(row.voice, refusal)
 }
 
 /// A block from zero phases and the next one, beside the Rust; then one from any phases, the port alone.

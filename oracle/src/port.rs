@@ -36,15 +36,8 @@ pub fn snare_knobs([_, f0, tone, decay, snappy, _]: Knobs) -> AnalogSnareDrumKno
     AnalogSnareDrumKnobs { f0, tone, decay, snappy }
 }
 
-pub fn snare_render(
-    voice: AnalogSnareDrum,
-    noise: u32,
-    trigger: bool,
-    accent: f32,
-    knobs: AnalogSnareDrumKnobs,
-    out: &mut [f32],
-) -> AnalogSnareDrumRendered {
-    unsafe { bechullpi_analog_snare_drum_render(voice, noise, trigger, accent, knobs, out.as_mut_ptr(), out.len()) }
+pub fn snare_render(voice: AnalogSnareDrum, trigger: bool, accent: f32, knobs: AnalogSnareDrumKnobs, out: &mut [f32]) -> AnalogSnareDrumAnswered {
+    unsafe { bechullpi_analog_snare_drum_render(voice, trigger, accent, knobs, out.as_mut_ptr(), out.len()) }
 }
 
 pub fn synthetic_snare_knobs(sustain: bool, [accent, f0, fm_amount, decay, snappy, _]: Knobs) -> SyntheticSnareDrumKnobs {
@@ -53,20 +46,19 @@ pub fn synthetic_snare_knobs(sustain: bool, [accent, f0, fm_amount, decay, snapp
 
 pub fn synthetic_snare_render(
     voice: SyntheticSnareDrum,
-    noise: u32,
     trigger: bool,
     knobs: SyntheticSnareDrumKnobs,
     out: &mut [f32],
-) -> SyntheticSnareDrumRendered {
-    unsafe { bechullpi_synthetic_snare_drum_render(voice, noise, trigger, knobs, out.as_mut_ptr(), out.len()) }
+) -> SyntheticSnareDrumAnswered {
+    unsafe { bechullpi_synthetic_snare_drum_render(voice, trigger, knobs, out.as_mut_ptr(), out.len()) }
 }
 
 pub fn hihat_knobs([sustain, resonance, two_stage_envelope]: [bool; 3], [accent, f0, tone, decay, noisiness, _]: Knobs) -> HihatKnobs {
     HihatKnobs { sustain, accent, f0, tone, decay, noisiness, resonance, two_stage_envelope }
 }
 
-pub fn hihat_render(voice: Hihat, noise: u32, [trigger, linear]: [bool; 2], knobs: HihatKnobs, out: &mut [f32]) -> HihatRendered {
-    unsafe { bechullpi_hihat_render(voice, noise, trigger, linear, knobs, out.as_mut_ptr(), out.len()) }
+pub fn hihat_render(voice: Hihat, [trigger, linear]: [bool; 2], knobs: HihatKnobs, out: &mut [f32]) -> HihatAnswered {
+    unsafe { bechullpi_hihat_render(voice, trigger, linear, knobs, out.as_mut_ptr(), out.len()) }
 }
 
 /// The records that calls are played on.
@@ -96,23 +88,28 @@ impl Records {
         let mut records = unsafe {
             Records {
                 b: transmute::<[u32; 19], AnalogBassDrum>(from_fn(|_| word())),
-                s: transmute::<[u32; 37], AnalogSnareDrum>(from_fn(|_| word())),
-                y: transmute::<[u32; 19], SyntheticSnareDrum>(from_fn(|_| word())),
-                h: transmute::<[u32; 21], Hihat>(from_fn(|_| word())),
+                s: transmute::<[u32; 38], AnalogSnareDrum>(from_fn(|_| word())),
+                y: transmute::<[u32; 20], SyntheticSnareDrum>(from_fn(|_| word())),
+                h: transmute::<[u32; 22], Hihat>(from_fn(|_| word())),
             }
         };
         (records.y.sample_rate_hz, records.h.sample_rate) = (rate, rate);
         records
     }
 
-    /// The call of a row, and what it leaves in the record, the noise state and `out`.
+    /// The call of a row, and what it leaves in the record and in `out`.
     pub fn play(&mut self, row: &Row, out: &mut [f32]) -> Played {
-        let (refusal, noise) = match row.kind {
-            Kind::Zero => (self.clear(row.voice), row.noise),
-            Kind::Init => (self.init(row.voice, row.knobs[0]), row.noise),
+        let refusal = match row.kind {
+            Kind::Zero => self.clear(row.voice),
+            Kind::Init => self.init(row.voice, row.knobs[0]),
             Kind::Render => self.render(row, out),
         };
-        Played { refusal, noise, state: self.state(row.voice) }
+        self.left(row.voice, refusal)
+    }
+
+    /// What a call has left in a voice's record, with its answer.
+    pub fn left(&self, voice: char, refusal: u32) -> Played {
+        Played { refusal, noise: self.noise(voice), state: self.state(voice) }
     }
 
     fn clear(&mut self, voice: char) -> u32 {
@@ -126,7 +123,7 @@ impl Records {
         0
     }
 
-    fn init(&mut self, voice: char, rate: f32) -> u32 {
+    pub fn init(&mut self, voice: char, rate: f32) -> u32 {
         match voice {
             'b' => {
                 let a = bechullpi_analog_bass_drum_init(self.b, rate);
@@ -151,41 +148,51 @@ impl Records {
         }
     }
 
-    /// The number of the refusal and the noise state after a block of as many samples as `out` has places.
-    pub fn render(&mut self, row: &Row, out: &mut [f32]) -> (u32, u32) {
+    /// The number of the refusal of a block of as many samples as `out` has places.
+    pub fn render(&mut self, row: &Row, out: &mut [f32]) -> u32 {
         let [sustain, trigger] = [row.flag(SUSTAIN), row.flag(TRIGGER)];
         match row.voice {
             'b' => {
                 let a = bass_render(self.b, trigger, row.knobs[0], bass_knobs(row.knobs), out);
                 self.b = a.voice;
-                (a.number, row.noise)
+                a.number
             }
             's' => {
-                let a = snare_render(self.s, row.noise, trigger, row.knobs[0], snare_knobs(row.knobs), out);
+                let a = snare_render(self.s, trigger, row.knobs[0], snare_knobs(row.knobs), out);
                 self.s = a.voice;
-                (a.number, a.noise)
+                a.number
             }
             'y' => {
-                let a = synthetic_snare_render(self.y, row.noise, trigger, synthetic_snare_knobs(sustain, row.knobs), out);
+                let a = synthetic_snare_render(self.y, trigger, synthetic_snare_knobs(sustain, row.knobs), out);
                 self.y = a.voice;
-                (a.number, a.noise)
+                a.number
             }
             _ => {
                 let knobs = hihat_knobs([sustain, row.flag(RESONANCE), row.flag(TWO_STAGE)], row.knobs);
-                let a = hihat_render(self.h, row.noise, [trigger, row.flag(LINEAR)], knobs, out);
+                let a = hihat_render(self.h, [trigger, row.flag(LINEAR)], knobs, out);
                 self.h = a.voice;
-                (a.number, a.noise)
+                a.number
             }
         }
     }
 
-    /// The fields in the order of their declaration.
-    pub fn state(&self, voice: char) -> Vec<u32> {
+    fn noise(&self, voice: char) -> u32 {
         match voice {
-            'b' => words(&format!("{:?}", self.b), &[]),
-            's' => words(&format!("{:?}", self.s), &[]),
-            'y' => words(&format!("{:?}", self.y), &[]),
-            _ => words(&format!("{:?}", self.h), &[]),
+            'b' => 0,
+            's' => self.s.noise,
+            'y' => self.y.noise,
+            _ => self.h.noise,
         }
+    }
+
+    /// The fields in the order of their declaration, without the noise state, which the published voices have elsewhere.
+    fn state(&self, voice: char) -> Vec<u32> {
+        let debug = match voice {
+            'b' => format!("{:?}", self.b),
+            's' => format!("{:?}", self.s),
+            'y' => format!("{:?}", self.y),
+            _ => format!("{:?}", self.h),
+        };
+        words(&debug, &["noise"])
     }
 }

@@ -22,7 +22,7 @@ pub fn record(rows_file: &str, answers_file: &str) {
     std::fs::write(answers_file, answers).expect("the answers are written");
 }
 
-/// The refusal, the noise state, and the digests of the samples, of none where there are none to tell, and of the state.
+/// The refusal, the voice's noise state, and the digests of the samples, of none where there are none to tell, and of the state.
 fn answer(voices: &mut Voices, row: &Row) -> String {
     let mut out = vec![0.0; row.samples as usize];
     let played = voices.play(row, &mut out);

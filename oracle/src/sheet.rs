@@ -1,8 +1,7 @@
 //! A second reading of the cue sheet, from the scope, over the published voices: what `cues` must print for an input.
-use crate::row::{Kind, RESONANCE, Row, TRIGGER};
+use crate::row::Row;
 use crate::state::pattern;
-use crate::voices::{Voices, is_decay, is_f0, is_unit, noise_state};
-use mi_plaits_dsp::utils::random;
+use crate::voices::{Voices, is_decay, is_f0, is_unit};
 
 struct Cue {
     start: usize,
@@ -113,7 +112,6 @@ fn cue(sheet: &Sheet, line: &[u8]) -> Result<Cue, u32> {
 fn render(sheet: &Sheet, out: &mut [f32]) {
     let mut voices = Voices::default();
     "bsyh".chars().for_each(|voice| voices.init(voice, sheet.rate as f32));
-    let mut noise = 33;
     out.fill(0.0);
     let mut scratch = vec![0.0; sheet.length];
     let mut latest: [Option<[f32; 5]>; 4] = [None; 4];
@@ -122,13 +120,9 @@ fn render(sheet: &Sheet, out: &mut [f32]) {
     for i in 0..=sheet.cues.len() {
         let to = sheet.cues.get(i).map_or(sheet.length, |cue| cue.start);
         for (voice, knobs) in "bsyh".chars().zip(latest) {
-            if let Some([accent, f0, a, decay, c]) = knobs {
+            if let Some(knobs) = knobs {
                 let block = &mut scratch[..to - from];
-                let flags = RESONANCE | if voice == struck { TRIGGER } else { 0 };
-                let knobs = [accent, f0, a, decay, c, 0.0];
-                random::seed(noise);
-                voices.render(&Row { voice, kind: Kind::Render, flags, samples: 0, knobs, noise }, block);
-                noise = noise_state();
+                voices.render(&Row::of_cue(voice, voice == struck, knobs), block);
                 out[from..to].iter_mut().zip(&*block).for_each(|(sum, x)| *sum += x);
             }
         }

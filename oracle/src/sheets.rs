@@ -1,5 +1,5 @@
 //! Random and damaged sheets, and what the compiled `cues` prints for them.
-use crate::calls::{Random, decay, f0, knob};
+use crate::calls::{Random, knobs};
 use crate::port;
 use crate::sheet::{rendered, text};
 use crate::state::pattern;
@@ -80,11 +80,15 @@ fn sheet(r: &mut Random) -> Vec<u8> {
 
 fn cue_line(r: &mut Random, start: u32) -> String {
     let voice = r.of(&['b', 's', 'y', 'h']);
-    let mut knobs = [knob(r), f0(r), knob(r), decay(r, voice), knob(r)];
+    let mut knobs = knobs(r, voice);
     if r.one_in(30) {
         let which = r.below(5) as usize;
         knobs[which] = r.of(&[f32::NAN, -1.0, 1.5, 2.0f32.next_up(), f32::INFINITY]);
     }
+    line(start, voice, knobs)
+}
+
+pub fn line(start: u32, voice: char, knobs: [f32; 5]) -> String {
     let fields: String = knobs.iter().map(|x| format!(",{:08x}", pattern(*x))).collect();
     format!("{start},{voice}{fields}\n")
 }

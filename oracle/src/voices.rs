@@ -49,7 +49,7 @@ const fn inverse(a: u32) -> u32 {
     x
 }
 
-/// What a call leaves, but for its samples: the number of the refusal, the noise state, and every field of the voice.
+/// What a call leaves, but for its samples: the number of the refusal, the voice's noise state, 0 for the bass, and every other field of the voice.
 #[derive(Debug, PartialEq)]
 pub struct Played {
     pub refusal: u32,
@@ -102,7 +102,17 @@ fn compare_voice(voice: char, scripts: u32) -> u64 {
     differ
 }
 
-/// The voices, each with the rate of its last accepted init; 0.0 in a record with every field zero.
+/// The noise state that an accepted init leaves: the one that the published generator begins with.
+const FIRST_NOISE: u32 = 33;
+
+/// A block that draws noise from a state of its own: the published voices share one static generator.
+fn drawing(noise: &mut u32, block: impl FnOnce()) {
+    random::seed(*noise);
+    block();
+    *noise = noise_state();
+}
+
+/// The voices, each with the rate of its last accepted init and its noise state; both are zero in a record with every field zero.
 #[derive(Default)]
 pub struct Voices {
     b: AnalogBassDrum,
@@ -111,6 +121,9 @@ pub struct Voices {
     h: Hihat,
     y_rate: f32,
     h_rate: f32,
+    s_noise: u32,
+    y_noise: u32,
+    h_noise: u32,
     temp_1: Vec<f32>,
     temp_2: Vec<f32>,
 }
@@ -118,19 +131,14 @@ pub struct Voices {
 impl Voices {
     pub fn play(&mut self, row: &Row, out: &mut [f32]) -> Played {
         let refusal = self.refusal(row);
-        let mut noise = row.noise;
         if refusal == 0 {
             match row.kind {
                 Kind::Zero => self.clear(row.voice),
                 Kind::Init => self.init(row.voice, row.knobs[0]),
-                Kind::Render => {
-                    random::seed(row.noise);
-                    self.render(row, out);
-                    noise = noise_state();
-                }
+                Kind::Render => self.render(row, out),
             }
         }
-        Played { refusal, noise, state: self.state(row.voice) }
+        Played { refusal, noise: self.noise(row.voice), state: self.state(row.voice) }
     }
 
     /// The number of the first question that the call does not pass; 0 where it passes all.
@@ -157,23 +165,26 @@ impl Voices {
     fn clear(&mut self, voice: char) {
         match voice {
             'b' => self.b = AnalogBassDrum::new(),
-            's' => self.s = AnalogSnareDrum::new(),
-            'y' => (self.y, self.y_rate) = (SyntheticSnareDrum::new(), 0.0),
-            _ => (self.h, self.h_rate) = (Hihat::new(), 0.0),
+            's' => (self.s, self.s_noise) = (AnalogSnareDrum::new(), 0),
+            'y' => (self.y, self.y_rate, self.y_noise) = (SyntheticSnareDrum::new(), 0.0, 0),
+            _ => (self.h, self.h_rate, self.h_noise) = (Hihat::new(), 0.0, 0),
         }
     }
 
     pub fn init(&mut self, voice: char, rate: f32) {
         match voice {
             'b' => self.b.init(rate),
-            's' => self.s.init(rate),
+            's' => {
+                self.s.init(rate);
+                self.s_noise = FIRST_NOISE;
+            }
             'y' => {
                 self.y.init(rate);
-                self.y_rate = rate;
+                (self.y_rate, self.y_noise) = (rate, FIRST_NOISE);
             }
             _ => {
                 self.h.init(rate);
-                self.h_rate = rate;
+                (self.h_rate, self.h_noise) = (rate, FIRST_NOISE);
             }
         }
     }
@@ -183,30 +194,28 @@ impl Voices {
         let (sustain, trigger) = (row.flag(SUSTAIN), row.flag(TRIGGER));
         match row.voice {
             'b' => self.b.render(false, trigger, accent, f0, a, decay.min(LAST_BASS_DECAY), c, self_fm_amount, out),
-            's' => self.s.render(false, trigger, accent, f0, a, decay, c, out),
-            'y' => self.y.render(sustain, trigger, accent, f0, a, decay, c, out),
+            's' => drawing(&mut self.s_noise, || self.s.render(false, trigger, accent, f0, a, decay, c, out)),
+            'y' => drawing(&mut self.y_noise, || self.y.render(sustain, trigger, accent, f0, a, decay, c, out)),
             _ => {
                 let length = self.temp_1.len().max(out.len());
                 self.temp_1.resize(length, 0.0);
                 self.temp_2.resize(length, 0.0);
                 let vca = if row.flag(LINEAR) { VcaType::Linear } else { VcaType::Swing };
-                self.h.render(
-                    sustain,
-                    trigger,
-                    accent,
-                    f0,
-                    a,
-                    decay,
-                    c,
-                    &mut self.temp_1[..out.len()],
-                    &mut self.temp_2[..out.len()],
-                    out,
-                    NoiseType::Square,
-                    vca,
-                    row.flag(RESONANCE),
-                    row.flag(TWO_STAGE),
-                );
+                let (temp_1, temp_2) = (&mut self.temp_1[..out.len()], &mut self.temp_2[..out.len()]);
+                let (resonance, two_stage, square) = (row.flag(RESONANCE), row.flag(TWO_STAGE), NoiseType::Square);
+                drawing(&mut self.h_noise, || {
+                    self.h.render(sustain, trigger, accent, f0, a, decay, c, temp_1, temp_2, out, square, vca, resonance, two_stage)
+                });
             }
+        }
+    }
+
+    fn noise(&self, voice: char) -> u32 {
+        match voice {
+            'b' => 0,
+            's' => self.s_noise,
+            'y' => self.y_noise,
+            _ => self.h_noise,
         }
     }
 

@@ -14,4 +14,5 @@ pub mod sheets;
 pub mod small;
 pub mod state;
 pub mod tally;
+pub mod tracks;
 pub mod voices;

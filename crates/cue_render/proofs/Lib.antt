@@ -2,3 +2,4 @@
 mod Fill
 mod Runs
 mod Pass
+mod Voices

@@ -20,7 +20,9 @@ pub(crate) fn add_track(sheet: &[u8], head: Head, out: &mut [f32], scratch: &mut
     requires { ⌜ Playable head (now out) (now scratch) ⌝ }
     ensures { λ _. ⌜ now (out .exit) ≡ mixed (now (out .entry)) (track bass head (strikes head (now (sheet .entry)))) ⌝ }
 {
-    let mut voice = AnalogBassDrum::ZERO.init(ieee754::nearest_f32(head.rate)).voice;
+    let mut voice = AnalogBassDrum::ZERO
+        .init(ieee754::nearest_f32(head.rate))
+        .voice;
     let mut walk = Walk::begin(sheet, head);
     while walk.place < sheet.len() {
         let step = walk.next(sheet);

@@ -22,7 +22,7 @@ pub record Plays {Voice : Type 0} (Ready : Voice → Type 0) (render : Render Vo
   pub in-two : (v : Voice) (trigger : Bool) → InTwo (render v trigger) (λ left. render left false)
   pub fills : (v : Voice) (trigger : Bool) (out out′ : List Float) → length out ≡ length out′ → render v trigger out .number ≡ 0
       → render v trigger out ≡ render v trigger out′
-  pub long : (v : Voice) (trigger : Bool) (out : List Float) → length (render v trigger out .out) ≡ length out
+  pub long : (v : Voice) (trigger : Bool) (out : List Float) → render v trigger out .number ≡ 0 → length (render v trigger out .out) ≡ length out
 
 abbrev pub PlaysAt : {Voice : Type 0} → (Voice → Type 0) → Option (Render Voice) → Type 0
 PlaysAt Ready none = Unit {0}

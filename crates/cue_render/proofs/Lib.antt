@@ -3,3 +3,5 @@ mod Fill
 mod Runs
 mod Pass
 mod Voices
+mod NeverRefused
+pub mod OwnLines

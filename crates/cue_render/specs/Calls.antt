@@ -14,5 +14,5 @@ pub record AllAccepted (head : Head) (strikes : List Strike) : Type 0 where
   pub y : Track.NoneRefused syntheticSnare head strikes
   pub h : Track.NoneRefused hihat head strikes
 
-abbrev pub NoneRefused : List ℕ → Type 0
+unfoldable pub NoneRefused : List ℕ → Type 0
 NoneRefused sheet = (head : Head) (cues : ℕ) → judge sheet ≡ accepted head cues → AllAccepted head (strikes head sheet)

@@ -35,15 +35,7 @@ unlessRefused (suc n) new old = old
 
 -- ---- a call of a voice
 
--- a voice, and the noise state beside it
-pub record Noisy (Voice : Type 0) : Type 0 where
-  pub voice : Voice
-  pub noise : ℕ
-
-abbrev pub noisy : {Voice : Type 0} → Voice → ℕ → Noisy Voice
-noisy voice noise = record { voice = voice; noise = noise }
-
--- what a call gives: its number, the voice after it, with the noise state where it draws noise, and the lent buffer after it; `out` is empty where none is lent
+-- what a call gives: its number, the voice after it and the lent buffer after it; `out` is empty where none is lent
 pub record Call (State : Type 0) : Type 0 where
   pub number : ℕ
   pub state : State

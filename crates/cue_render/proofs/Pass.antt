@@ -2,32 +2,28 @@
 use Prim.Native.Nat.{ℕ, _+_, _-_, _≤_, _<_}
 use native.Mathlib.Omega.{arith}
 use mathlib.Core.Path.{_≡_, refl, sym, ap, _∙_}
-use mathlib.Core.Bool.{Bool, true, false, cond}
+use mathlib.Core.Bool.{Bool, true, cond}
 use mathlib.Core.List.{List, [], _∷_, _++_, map, append-nil}
 use mathlib.Core.Option.{Option, none, some}
-use lib.Dec.{eqb}
 use lib.ListN as List
 use lib.ListN.{take, drop, replicate, length-append, length-drop, length-map}
 use lib.Seq.{length-take-le}
 use lib.Ieee.{Float}
-use Rattle.block.specs.Block.{Passed}
 use Rattle.refusal.specs.Refusal.{Call}
-use Rattle.text.specs.Read.{lines, lineAt}
+use Rattle.text.specs.Read.{lineAt}
 use Rattle.cue_sheet.specs.Answer.{Told, says, refused}
 use Rattle.cue_sheet.specs.CueLine.{Strike}
-use Rattle.cue_sheet.specs.Sheet.{begin, readLine, onTold, next, strikesFrom, strikes}
+use Rattle.cue_sheet.specs.Sheet.{begin, readLine, onTold, next, strikes}
 use Rattle.cue_sheet.specs.declared.Head.{Head}
 use Rattle.cue_sheet.specs.declared.Walk.{Walk}
-use Rattle.cue_sheet.proofs.Questions.{cue-passed}
 use Rattle.cue_sheet.proofs.Walks.{rest, next-head, line-struck, none-struck}
 use Rattle.track.specs.Mix.{silence, mixed}
 use Rattle.track.specs.Track.{Render, Player, isOwn, started, track}
-use Rattle.track.specs.Letters.{letterOf}
 use Rattle.track.proofs.Mixed.{silence-length, mixed-length, mixed-none, part-length, mixed-part}
 use Rattle.track.proofs.Cues.{CuesIn, until-in, earlier, cues-of}
 use Rattle.track.proofs.Laws.{Plays, PlaysAt, Lawful}
 use Rattle.track.proofs.Alone.{Own, onOwn, ends, soloFrom, solo, owns, ends-in, alone}
-use Rattle.cue_render.specs.Run.{isOf, startOf, nextStart, runOf, renderOf, struck, Playable}
+use Rattle.cue_render.specs.Run.{nextStart, runOf, renderOf, struck, Playable}
 use Rattle.cue_render.specs.declared.run.Run.{Run}
 use Rattle.cue_render.proofs.Runs.{cuesLeft}
 

@@ -10,7 +10,7 @@ use Rattle.cue_sheet.specs.Answer.{Told, says, refused}
 use Rattle.cue_sheet.specs.CueLine.{Strike}
 use Rattle.cue_sheet.specs.Sheet.{readLine, onTold, next, strikesFrom}
 use Rattle.cue_sheet.specs.declared.Walk.{Walk}
-use Rattle.cue_sheet.proofs.Walks.{line-struck, none-struck}
+use Rattle.cue_sheet.proofs.Walks.{line-struck}
 use Rattle.cue_render.specs.Run.{isOf, startOf, nextStart}
 
 -- the cues from a walk's place on

@@ -1,7 +1,7 @@
 -- The four voices may be played by a sheet: with knobs that have passed their questions they refuse no call, and Point 4 is shown of each.
-use Prim.Native.Nat.{ℕ, zero, suc, _≤_}
+use Prim.Native.Nat.{ℕ, zero, suc}
 use Prim.Native.Char.{code}
-use mathlib.Core.Path.{_≡_, refl, sym, ap, _∙_}
+use mathlib.Core.Path.{_≡_, refl, ap, _∙_}
 use mathlib.Core.Bool.{Bool, true, false, cond}
 use mathlib.Core.List.{List}
 use lib.Dec.{eqb}
@@ -9,7 +9,6 @@ use lib.ListN.{length}
 use lib.Ieee.{Float, le, round}
 use borrow.Author.Tests.{le-leb}
 use Rattle.ieee754.specs.Single.{decimal}
-use Rattle.block.specs.Block.{Passed}
 use Rattle.block.specs.Block as Block
 use Rattle.block.proofs.Blocks.{samples-length, scan-length, after-keeps}
 use Rattle.refusal.specs.Refusal.{unlessRefused, isSampleRate, isUnit, within}
@@ -30,7 +29,7 @@ use Rattle.cue_sheet.specs.declared.line.Cue.the-variants.{Bass, Snare, Synthet
 use Rattle.cue_sheet.proofs.Questions.{KnobsOf}
 use Rattle.track.specs.Track.{isOwn}
 use Rattle.track.specs.Letters.{letterOf}
-use Rattle.track.proofs.Laws.{Plays, PlaysAt, Lawful}
+use Rattle.track.proofs.Laws.{PlaysAt, Lawful}
 use Rattle.cue_render.specs.Voices.{bassCue, bass, snareCue, snare, syntheticSnareCue, syntheticSnare, hihatCue, hihat}
 
 -- ---- b

@@ -50,7 +50,7 @@ module _ {Voice : Type 0} (p : Player Voice) (laws : Lawful p) (length : ℕ) (s
       let own = p .render (s .cue) in
       let knobs = latest-plays own before (laws .plays (s .cue) (cues .1)) plays in
       let bounds = until-in length (s .start) ss (cues .2) in
-      let call = call-accepted (latest own before) knobs v ready (isOwn own) (until length ss - s .start) (omega (arith, bounds .1)) in
+      let call = call-accepted (latest own before) knobs v ready _ (until length ss - s .start) (omega (arith, bounds .1)) in
       (call .0, accepted-from (s .start) ss (cues .2) (latest own before) knobs _ (call .1))
 
 pub none-refused : {Voice : Type 0} (p : Player Voice) → Lawful p → (head : Head) → isSampleRate (ofInt binary32 (pos (head .rate))) ≡ true → head .length ≤ 16384

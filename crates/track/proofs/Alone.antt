@@ -1,10 +1,9 @@
 -- A voice's track is the one that its own cues alone make: the cues of others cut its runs, and a run in parts is the whole run.
 use Prim.Native.Nat.{ℕ, _+_, _-_, _≤_}
-use native.Mathlib.Nat.{add-zero, add-assoc}
 use native.Mathlib.Omega.{arith}
-use mathlib.Core.Path.{_≡_, refl, sym, ap, ap₂, _∙_}
+use mathlib.Core.Path.{_≡_, sym, ap, ap₂, _∙_}
 use mathlib.Core.Bool.{true, false}
-use mathlib.Core.List.{List, [], _∷_, _++_, map, flatten, append-assoc, append-nil, map-append}
+use mathlib.Core.List.{List, [], _∷_, _++_, map, flatten, append-assoc, map-append}
 use mathlib.Core.Option.{Option, none, some}
 use lib.ListN.{replicate, replicate-append-replicate}
 use lib.Ieee.{Float}

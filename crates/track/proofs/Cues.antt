@@ -1,7 +1,7 @@
 -- The cues of a sheet, as a walk over its lines finds them.
-use Prim.Native.Nat.{ℕ, _+_, _≤_, _<_}
+use Prim.Native.Nat.{ℕ, _≤_, _<_}
 use native.Mathlib.Omega.{arith}
-use mathlib.Core.Path.{_≡_, refl, sym, ap, _∙_}
+use mathlib.Core.Path.{_≡_, refl, ap, _∙_}
 use mathlib.Core.List.{List, [], _∷_}
 use Rattle.cue_sheet.specs.Answer.{Told, says, refused}
 use Rattle.cue_sheet.specs.CueLine.{Strike}

@@ -1,5 +1,5 @@
 -- What a voice must do to be played by a sheet: what is shown of a voice for the laws of its track to hold.
-use Prim.Native.Nat.{ℕ, _≤_}
+use Prim.Native.Nat.{_≤_}
 use mathlib.Core.Path.{_≡_}
 use mathlib.Core.Bool.{Bool, true, false}
 use mathlib.Core.List.{List}

@@ -5,3 +5,4 @@ pub mod Laws
 pub mod Accepts
 pub mod Alone
 pub mod OwnLines
+pub mod MovedCue

@@ -1,14 +1,13 @@
 -- What a voice gives is added part by part; where it gives nothing, nothing changes.
-use Prim.Native.Nat.{ℕ, zero, suc, _+_, _-_, _≤_, _<_}
+use Prim.Native.Nat.{ℕ, zero, suc, _+_, _-_, _≤_}
 use native.Mathlib.Omega.{arith}
 use mathlib.Core.Path.{_≡_, refl, sym, ap, _∙_}
-use mathlib.Core.List.{List, [], _∷_, _++_, map, append-assoc, append-nil}
+use mathlib.Core.List.{List, [], _∷_, _++_, append-assoc}
 use mathlib.Core.Option.{Option, none, some}
 use lib.ListN as List
-use lib.ListN.{length, take, drop, replicate, length-append, length-replicate, length-drop, length-map, take-append-drop, replicate-append-replicate}
+use lib.ListN.{length, take, drop, replicate, length-replicate, length-drop, take-append-drop, replicate-append-replicate}
 use lib.Seq.{length-take-le, drop-drop}
 use lib.Ieee.{Float}
-use Rattle.ieee754.specs.Single.{_⊕_}
 use Rattle.track.specs.Mix.{silence, mixed}
 
 pub silence-length : (n : ℕ) → length (silence n) ≡ n

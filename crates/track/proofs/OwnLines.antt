@@ -7,16 +7,14 @@ use mathlib.Core.Bool.{Bool, true, false, cond, _&&_, _||_}
 use mathlib.Core.List.{List, [], _∷_}
 use mathlib.Core.Option.{Option, none, some}
 use lib.Dec.{eqb}
-use lib.IntN.{pos}
-use lib.Ieee.{Float, binary32, ofInt}
+use lib.Ieee.{Float}
 use borrow.Author.Tests.{eqb-true}
 use Rattle.text.specs.Read.{ended, body, field, hasFields, decimal, pattern}
 use Rattle.cue_sheet.specs.Answer.{Told, says, refused, valid}
 use Rattle.cue_sheet.specs.CueLine.{Strike, letter, isVoice, readFields, cueOf}
-use Rattle.cue_sheet.specs.Sheet.{accepted, refusedAt, begin, readFirstLine, readLine, onTold, next, judgeFrom, judge, strikesFrom, strikes}
+use Rattle.cue_sheet.specs.Sheet.{accepted, refusedAt, readLine, onTold, next, judgeFrom, judge, strikesFrom, strikes}
 use Rattle.cue_sheet.specs.declared.Head.{Head}
 use Rattle.cue_sheet.specs.declared.Walk.{Walk}
-use Rattle.cue_sheet.specs.declared.line.Cue.{Cue}
 use Rattle.cue_sheet.specs.declared.line.Cue.the-variants.{Bass, Snare, SyntheticSnare, Hihat}
 use Rattle.cue_sheet.proofs.Questions.{cue-passed}
 use Rattle.cue_sheet.proofs.FirstLines.{accepted-head, accepted-lines}
@@ -103,5 +101,5 @@ module _ {Voice : Type 0} (p : Player Voice) (laws : Lawful p) where
       let short = accepted-head sheet h .longest in
       let ready = laws .init-ready _ rate in
       alone p laws (head .length) short (strikes head sheet) (cues-of head sheet) _ ready
-      ∙ ap (solo (head .length) (started p head .state)) (sheet-owns sheet h ∙ ap (ownsOf p) same ∙ sym (sheet-owns sheet′ h′))
+      ∙ ap (solo (head .length) (started p head .state)) (sheet-owns sheet h ∙ rw same (sym (sheet-owns sheet′ h′)))
       ∙ sym (alone p laws (head .length) short (strikes head sheet′) (cues-of head sheet′) _ ready)

@@ -49,7 +49,7 @@ fn struck_unstarted(f0: f32, out: &mut [f32]) -> Answer {
         resonance: true,
         two_stage_envelope: false,
     };
-    let rendered = Hihat::ZERO.render(33, true, VcaType::Swing, knobs, out);
+    let rendered = Hihat::ZERO.render(true, VcaType::Swing, knobs, out);
     rendered.answer
 }
 

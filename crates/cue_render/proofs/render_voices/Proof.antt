@@ -1,5 +1,4 @@
 -- The voices one after the other, each adding its track to what those before it left; every call leaves both buffers as long as they were.
-use borrow.Author.Needs.{needs}
 use Prim.Native.Nat.{ℕ}
 use mathlib.Core.Path.{_≡_, refl, _∙_}
 use mathlib.Core.List.{List}

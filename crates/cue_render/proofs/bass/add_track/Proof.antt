@@ -3,7 +3,7 @@ use borrow.Author.Needs.{needs}
 use borrow.Rule.Slice.PartMut.{post-is}
 use Prim.Native.Nat.{_-_}
 use native.Mathlib.Omega.{arith}
-use mathlib.Core.Path.{_≡_, refl, sym, ap, _∙_}
+use mathlib.Core.Path.{_≡_, sym, ap, _∙_}
 use lib.ListN as List
 use lib.ListN.{length-append, length-drop}
 use lib.Ieee.{round, ofBits, mul, toUnsigned}

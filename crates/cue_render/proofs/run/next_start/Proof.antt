@@ -1,5 +1,4 @@
 -- The voice's next cue is not among the lines that are passed by.
-use borrow.Author.Needs.{needs}
 use Prim.Native.Nat.{_-_}
 use mathlib.Core.Path.{_≡_, refl, sym, ap, _∙_}
 use lib.ListN as List

@@ -15,7 +15,7 @@ use Rattle.cue_sheet.specs.CueLine.{Strike}
 use Rattle.cue_sheet.specs.declared.Head.{Head}
 use Rattle.cue_sheet.proofs.FirstLines.{HeadIn}
 use Rattle.track.specs.Mix.{silence}
-use Rattle.track.specs.Track.{Render, Player, until, isOwn, latest, called, left, segmentsFrom, Accepted, NoneRefused}
+use Rattle.track.specs.Track.{Render, Player, until, latest, called, left, segmentsFrom, Accepted, NoneRefused}
 use Rattle.track.proofs.Mixed.{silence-length}
 use Rattle.track.proofs.Laws.{PlaysAt, Lawful}
 use Rattle.track.proofs.Cues.{CuesIn, until-in}

@@ -6,13 +6,16 @@ use mathlib.Core.List.{List, [], _∷_, map}
 use mathlib.Core.Option.{Option, none, some}
 use lib.Dec.{eqb}
 use lib.IntN.{pos}
-use lib.ListN.{length}
+use lib.ListN.{length, drop}
 use lib.Ieee.{Float, binary32, ofInt}
 use Rattle.block.specs.Block.{Passed}
 use Rattle.refusal.specs.Refusal.{isSampleRate}
+use Rattle.text.specs.Read.{lines}
 use Rattle.cue_sheet.specs.Answer.{Told, says, refused}
 use Rattle.cue_sheet.specs.CueLine.{Strike}
+use Rattle.cue_sheet.specs.Sheet.{strikesFrom}
 use Rattle.cue_sheet.specs.declared.Head.{Head}
+use Rattle.cue_sheet.specs.declared.Walk.{Walk}
 use Rattle.track.specs.Mix.{mixed}
 use Rattle.track.specs.Track.{Render, Player}
 use Rattle.track.specs.Letters.{letterOf}
@@ -27,14 +30,25 @@ abbrev pub startOf : Told Strike → ℕ
 startOf (says s) = s .start
 startOf (refused n) = 0
 
--- the start of the voice's next cue, and the sheet's end where there is none
-unfoldable pub nextStart : ℕ → ℕ → List Strike → ℕ
-nextStart letter length [] = length
-nextStart letter length (s ∷ ss) = cond (eqb (letterOf (s .cue)) letter) (s .start) (nextStart letter length ss)
+-- the cues from a walk's place on
+abbrev pub left : List ℕ → Walk → List Strike
+left sheet walk = strikesFrom walk (lines (drop (walk .place) sheet))
 
--- the places of a line's run: none of a line that is no cue of the voice
-unfoldable pub runOf : ℕ → ℕ → Told Strike → List Strike → Run
-runOf letter length line ss = cond (isOf letter line) (record { from = startOf line; to = nextStart letter length ss }) (record { from = 0; to = 0 })
+-- the voice's cues among these
+unfoldable pub ofVoice : ℕ → List Strike → List Strike
+ofVoice letter [] = []
+ofVoice letter (s ∷ ss) =
+    let own = ofVoice letter ss in
+    cond (eqb (letterOf (s .cue)) letter) (s ∷ own) own
+
+-- the voice's cues from a line on, that of the line the first; none where the line is no cue of the voice
+unfoldable pub fromLine : ℕ → Told Strike → List Strike → List Strike
+fromLine letter (says s) ss = cond (eqb (letterOf (s .cue)) letter) (s ∷ ofVoice letter ss) []
+fromLine letter (refused n) ss = []
+
+-- the run of a cue, up to the voice's next, or to the sheet's end where `next` is no cue of the voice
+unfoldable pub runOf : ℕ → ℕ → Told Strike → Told Strike → Run
+runOf letter length line next = record { from = startOf line; to = cond (isOf letter next) (startOf next) length }
 
 -- what a line does to a voice and to the places of its run: a cue of its own triggers it, and what it renders into a scratch block is added
 unfoldable pub renderOf : {Voice : Type 0} → Player Voice → Told Strike → Option (Render Voice)

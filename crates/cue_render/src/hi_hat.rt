@@ -22,15 +22,18 @@ pub(crate) fn add_track(sheet: &[u8], head: Head, out: &mut [f32], scratch: &mut
     ensures { λ _. ⌜ now (out .exit) ≡ mixed (now (out .entry)) (track hihat head (strikes head (now (sheet .entry)))) ⌝ }
 {
     let mut voice = Hihat::ZERO.init(ieee754::nearest_f32(head.rate)).voice;
-    let mut walk = Walk::begin(sheet, head);
-    while walk.place < sheet.len() {
-        let step = walk.next(sheet);
-        let line = step.line;
+    let first = run::next_cue(sheet, Walk::begin(sheet, head), b'h');
+    let mut line = first.line;
+    let mut walk = first.walk;
+    while run::is_of(line, b'h') {
+        let step = run::next_cue(sheet, walk, b'h');
+        let next = step.line;
         walk = step.walk;
-        let run = run::run_of(sheet, line, walk, b'h');
+        let run = run::run_of(line, next, b'h', head.length);
         let from = run.from;
         let to = run.to;
         voice = strike(voice, line, &mut out[from..to], &mut scratch[..to - from]);
+        line = next;
     }
 }
 

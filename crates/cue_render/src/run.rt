@@ -1,13 +1,11 @@
 // The run of a cue: the samples from its start to the start of its voice's next cue. A voice is told by its letter in a sheet.
 ghost use mathlib.Core.Path.{_≡_};
-ghost use lib.ListN.{drop};
-ghost use Rattle.text.specs.Read.{lines};
 ghost use Rattle.cue_sheet.specs.CueLine.{told};
-ghost use Rattle.cue_sheet.specs.Sheet.{strikesFrom};
 ghost use Rattle.track.specs.Letters.{letterOf};
 ghost use Rattle.cue_render.specs.Run as spec;
 use cue_sheet::Cue;
 use cue_sheet::Line;
+use cue_sheet::Step;
 use cue_sheet::Walk;
 
 // From a place of the buffer to another.
@@ -27,7 +25,7 @@ fn letter_of(cue: Cue) -> u8
     }
 }
 
-fn is_of(line: Line, voice: u8) -> bool
+pub(crate) fn is_of(line: Line, voice: u8) -> bool
     ensures { λ r. ⌜ r ≡ spec.isOf voice (told line) ⌝ }
 {
     match line {
@@ -46,31 +44,36 @@ fn start_of(line: Line) -> u32
     }
 }
 
-// The start of the voice's next cue from the walk's place on, and the sheet's end where there is none.
-fn next_start(sheet: &[u8], walk: Walk, voice: u8) -> u32
-    ensures { λ r. ⌜ r ≡ spec.nextStart voice (walk .head .length) (strikesFrom walk (lines (drop (walk .place) (now (sheet .entry))))) ⌝ }
+// The voice's next cue from the walk's place on, and the walk after it. Where there is none, the line is no cue: that at the sheet's end is empty.
+pub(crate) fn next_cue(sheet: &[u8], walk: Walk, voice: u8) -> Step
+    ensures head { λ r. ⌜ r .walk .head ≡ walk .head ⌝ }
+    ensures cues { λ r. ⌜ spec.ofVoice voice (spec.left (now (sheet .entry)) walk) ≡ spec.fromLine voice (told (r .line)) (spec.left (now (sheet .entry)) (r .walk)) ⌝ }
 {
     let mut walk = walk;
     while walk.place < sheet.len() {
         let step = walk.next(sheet);
         let line = step.line;
         if is_of(line, voice) {
-            return start_of(line);
+            return step;
         }
         walk = step.walk;
     }
-    walk.head.length
+    walk.next(sheet)
 }
 
-// The run of a line, with the walk after it. A line that is no cue of the voice has an empty one.
-pub(crate) fn run_of(sheet: &[u8], line: Line, walk: Walk, voice: u8) -> Run
-    ensures { λ r. ⌜ r ≡ spec.runOf voice (walk .head .length) (told line) (strikesFrom walk (lines (drop (walk .place) (now (sheet .entry))))) ⌝ }
+// The run of a cue, with the line of the voice's next cue.
+pub(crate) fn run_of(line: Line, next: Line, voice: u8, length: u32) -> Run
+    ensures { λ r. ⌜ r ≡ spec.runOf voice length (told line) (told next) ⌝ }
 {
-    if is_of(line, voice) {
+    let from = start_of(line) as usize;
+    if is_of(next, voice) {
         return Run {
-            from: start_of(line) as usize,
-            to: next_start(sheet, walk, voice) as usize,
+            from,
+            to: start_of(next) as usize,
         };
     }
-    Run { from: 0, to: 0 }
+    Run {
+        from,
+        to: length as usize,
+    }
 }

@@ -23,15 +23,18 @@ pub(crate) fn add_track(sheet: &[u8], head: Head, out: &mut [f32], scratch: &mut
     let mut voice = AnalogSnareDrum::ZERO
         .init(ieee754::nearest_f32(head.rate))
         .voice;
-    let mut walk = Walk::begin(sheet, head);
-    while walk.place < sheet.len() {
-        let step = walk.next(sheet);
-        let line = step.line;
+    let first = run::next_cue(sheet, Walk::begin(sheet, head), b's');
+    let mut line = first.line;
+    let mut walk = first.walk;
+    while run::is_of(line, b's') {
+        let step = run::next_cue(sheet, walk, b's');
+        let next = step.line;
         walk = step.walk;
-        let run = run::run_of(sheet, line, walk, b's');
+        let run = run::run_of(line, next, b's', head.length);
         let from = run.from;
         let to = run.to;
         voice = strike(voice, line, &mut out[from..to], &mut scratch[..to - from]);
+        line = next;
     }
 }
 

@@ -23,15 +23,18 @@ pub(crate) fn add_track(sheet: &[u8], head: Head, out: &mut [f32], scratch: &mut
     let mut voice = SyntheticSnareDrum::ZERO
         .init(ieee754::nearest_f32(head.rate))
         .voice;
-    let mut walk = Walk::begin(sheet, head);
-    while walk.place < sheet.len() {
-        let step = walk.next(sheet);
-        let line = step.line;
+    let first = run::next_cue(sheet, Walk::begin(sheet, head), b'y');
+    let mut line = first.line;
+    let mut walk = first.walk;
+    while run::is_of(line, b'y') {
+        let step = run::next_cue(sheet, walk, b'y');
+        let next = step.line;
         walk = step.walk;
-        let run = run::run_of(sheet, line, walk, b'y');
+        let run = run::run_of(line, next, b'y', head.length);
         let from = run.from;
         let to = run.to;
         voice = strike(voice, line, &mut out[from..to], &mut scratch[..to - from]);
+        line = next;
     }
 }
 

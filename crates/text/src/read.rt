@@ -66,7 +66,11 @@ pub fn field_end(line: &[u8], at: usize) -> usize
 fn digit(b: u8) -> u64
     ensures { λ r. ⌜ r ≡ Read.digit b ⌝ }
 {
-    find(b"0123456789abcdef", 0, b) as u64
+    match b {
+        b'0'..=b'9' => (b - b'0') as u64,
+        b'a'..=b'f' => (b - b'a') as u64 + 10,
+        _ => 16,
+    }
 }
 
 // The number that digits in a base stand for, if it is at most `limit`. A number that passes the limit on the way stays above it.

@@ -3,6 +3,7 @@ ghost use mathlib.Core.Path.{_≡_};
 ghost use Rattle.cue_sheet.specs.CueLine.{told};
 ghost use Rattle.track.specs.Letters.{letterOf};
 ghost use Rattle.cue_render.specs.Run as spec;
+ghost use Rattle.cue_render.specs.Run.{left, ofVoice, fromLine};
 use cue_sheet::Cue;
 use cue_sheet::Line;
 use cue_sheet::Step;
@@ -47,7 +48,7 @@ fn start_of(line: Line) -> u32
 // The voice's next cue from the walk's place on, and the walk after it. Where there is none, the line is no cue: that at the sheet's end is empty.
 pub(crate) fn next_cue(sheet: &[u8], walk: Walk, voice: u8) -> Step
     ensures head { λ r. ⌜ r .walk .head ≡ walk .head ⌝ }
-    ensures cues { λ r. ⌜ spec.ofVoice voice (spec.left (now (sheet .entry)) walk) ≡ spec.fromLine voice (told (r .line)) (spec.left (now (sheet .entry)) (r .walk)) ⌝ }
+    ensures cues { λ r. let s = now (sheet .entry) in ⌜ ofVoice voice (left s walk) ≡ fromLine voice (told (r .line)) (left s (r .walk)) ⌝ }
 {
     let mut walk = walk;
     while walk.place < sheet.len() {

@@ -5,7 +5,7 @@ ghost use Rattle.cue_sheet.specs.CueLine.{told};
 ghost use Rattle.cue_sheet.specs.Sheet.{strikes};
 ghost use Rattle.track.specs.Mix.{mixed};
 ghost use Rattle.track.specs.Track.{track};
-ghost use Rattle.cue_render.specs.Voices.{syntheticSnare};
+ghost use Rattle.cue_render.specs.Voices.{syntheticSnare as snare};
 ghost use Rattle.cue_render.specs.Run.{Playable, renderOf, struck};
 use crate::mix;
 use crate::run;
@@ -18,7 +18,7 @@ use synthetic_snare_drum::SyntheticSnareDrum;
 
 pub(crate) fn add_track(sheet: &[u8], head: Head, out: &mut [f32], scratch: &mut [f32])
     requires { ⌜ Playable head (now out) (now scratch) ⌝ }
-    ensures { λ _. ⌜ now (out .exit) ≡ mixed (now (out .entry)) (track syntheticSnare head (strikes head (now (sheet .entry)))) ⌝ }
+    ensures { λ _. ⌜ now (out .exit) ≡ mixed (now (out .entry)) (track snare head (strikes head (now (sheet .entry)))) ⌝ }
 {
     let mut voice = SyntheticSnareDrum::ZERO
         .init(ieee754::nearest_f32(head.rate))
@@ -46,8 +46,8 @@ fn strike(
     scratch: &mut [f32],
 ) -> SyntheticSnareDrum
     requires { ⌜ length (now scratch) ≡ length (now out) ⌝ }
-    ensures voice { λ r. ⌜ r ≡ struck (renderOf syntheticSnare (told line)) voice (now (scratch .entry)) (now (out .entry)) .state ⌝ }
-    ensures out { λ _. ⌜ now (out .exit) ≡ struck (renderOf syntheticSnare (told line)) voice (now (scratch .entry)) (now (out .entry)) .out ⌝ }
+    ensures voice { λ r. ⌜ r ≡ struck (renderOf snare (told line)) voice (now (scratch .entry)) (now (out .entry)) .state ⌝ }
+    ensures out { λ _. ⌜ now (out .exit) ≡ struck (renderOf snare (told line)) voice (now (scratch .entry)) (now (out .entry)) .out ⌝ }
 {
     let Line::Cue(_, cue) = line else {
         return voice;

@@ -44,15 +44,6 @@ in-buffers c =
     let inv = c .before .before .before .before .before .loop .inv in
     fits hihat hihat-lawful _ (inv .0) (own c) _ _ (cue .0) (cue .1) (c .run-of .ensures) _ (inv .1)
 
-mul-strike : tie.Need-mul-strike Inv-loop μ-loop
-mul-strike c = let f = in-buffers c in search needs
-
-part-strike-start : tie.Need-part-strike-start Inv-loop μ-loop
-part-strike-start c = let f = in-buffers c in search needs
-
-part-strike-end : tie.Need-part-strike-end Inv-loop μ-loop
-part-strike-end c = let f = in-buffers c in search needs
-
 loop-less : tie.Need-loop-less Inv-loop μ-loop
 loop-less c =
     let run = c .before .before .before .before .before .before .before in
@@ -71,15 +62,15 @@ loop-again c =
       simp (length-append, length-drop) (omega (arith, strike .strike .kept .1 .1 .1 .0, f .block, f .room, inv .1)),
     )
 
-returns : tie.Need-returns Inv-loop μ-loop
-returns c = ends-here hihat hihat-lawful _ (c .before .before .loop .inv .0) (sym (c .before .is-of .ensures) ∙ c .if1 .left)
-
 pub add-track-spec : {M : Type 1} → statement M
 add-track-spec =
     tie.close
-    (tie.spec Inv-loop μ-loop (λ c κs. tt) (λ c κs. tt) (λ c κs. tt) (λ c κs. tt) loop-holds (λ c κs. tt) (λ c κs. tt) (λ c κs. tt) mul-strike
-    (λ c. in-buffers c .rising) part-strike-start part-strike-end (λ c. in-buffers (c .before) .rising) (λ c. in-buffers (c .before) .room)
+    (tie.spec Inv-loop μ-loop (λ c κs. tt) (λ c κs. tt) (λ c κs. tt) (λ c κs. tt) loop-holds (λ c κs. tt) (λ c κs. tt) (λ c κs. tt)
+    (λ c. let f = in-buffers c in search needs) (λ c. in-buffers c .rising) (λ c. let f = in-buffers c in search needs)
+    (λ c. let f = in-buffers c in search needs) (λ c. in-buffers (c .before) .rising) (λ c. in-buffers (c .before) .room)
     (λ c. sym (in-buffers (c .before .before) .block)) (λ c κs. let f = in-buffers (c .before .before) in f .block ∙ sym (f .part)) loop-less loop-again
-    (λ c. let loop = c .before .before in loop .loop .inv .0 .room ∙ sym (loop .before .before .before .before .before .before .before .before .before .before .pre .room))
-    (λ c. let loop = c .before .before in loop .loop .inv .1 ∙ sym (loop .before .before .before .before .before .before .before .before .before .before .pre .enough))
-    returns)
+    (λ c. let loop = c .before .before in
+    loop .loop .inv .0 .room ∙ sym (loop .before .before .before .before .before .before .before .before .before .before .pre .room))
+    (λ c. let loop = c .before .before in
+    loop .loop .inv .1 ∙ sym (loop .before .before .before .before .before .before .before .before .before .before .pre .enough))
+    (λ c. ends-here hihat hihat-lawful _ (c .before .before .loop .inv .0) (sym (c .before .is-of .ensures) ∙ c .if1 .left)))

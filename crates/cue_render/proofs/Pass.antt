@@ -96,7 +96,8 @@ module _ {Voice : Type 0} (p : Player Voice) (laws : Lawful p) where
       let long = length-map (r v true scratch .out) some ∙ plays .long v true scratch accepted ∙ size in
       ap (λ (k : ℕ). mixed (take from out ++ (whole ++ drop to out)) (replicate k none ++ rest)) (sym to-is)
       ∙ mixed-part out (map some (r v true scratch .out)) rest from to above (omega (arith, room)) long
-      ∙ ap (λ (call : Call Voice). mixed out (replicate from none ++ (map some (call .out) ++ soloFrom length (call .state) os))) (plays .fills v true scratch (silence n) sized accepted)
+      ∙ ap (λ (call : Call Voice). mixed out (replicate from none ++ (map some (call .out) ++ soloFrom length (call .state) os)))
+      (plays .fills v true scratch (silence n) sized accepted)
 
   module _ (sheet : List ℕ) where
     -- the cues that are left, from the line t on, with the walk w after it
@@ -227,7 +228,8 @@ module _ {Voice : Type 0} (p : Player Voice) (laws : Lawful p) where
             cues = earlier (head .length) 0 (s .start) (from-here t′ w′) (omega arith) behind′;
             short = g .short;
             room =
-                let part-long = ap List.length added ∙ struck-length (renderOf p t) v scratch (take (to - from) (drop from out)) ∙ part-length out from to (b .0) (omega (arith, b .1, g .room)) in
+                let places = take (to - from) (drop from out) in
+                let part-long = ap List.length added ∙ struck-length (renderOf p t) v scratch places ∙ part-length out from to (b .0) (omega (arith, b .1, g .room)) in
                 rw (written, length-append, length-append, length-drop, length-take-le from out (omega (arith, b .0, b .1, g .room)), part-long)
                 (omega (arith, b .0, b .1, g .room));
             ready = rw (after, s .renders) (s .plays .stays v (g .ready) true scratch);

@@ -40,7 +40,8 @@ module _ (letter : ℕ) where
     here = lineAt (w .place) sheet
 
     module _ (more : w .place < List.length sheet) where
-      by-here : ofVoice letter (left sheet w) ≡ cond (isOf letter (readLine w here)) (fromLine letter (readLine w here) (left sheet (next w here))) (ofVoice letter (left sheet (next w here)))
+      by-here : ofVoice letter (left sheet w)
+          ≡ cond (isOf letter (readLine w here)) (fromLine letter (readLine w here) (left sheet (next w here))) (ofVoice letter (left sheet (next w here)))
       by-here = ap (ofVoice letter) (line-struck sheet w more) ∙ by-line (readLine w here) (left sheet (next w here))
 
       pub found : {t : Told Strike} {w′ : Walk} → t ≡ readLine w here → w′ ≡ next w here → isOf letter t ≡ true → ofVoice letter (left sheet w) ≡ fromLine letter t (left sheet w′)

@@ -68,8 +68,10 @@ module _ {Voice : Type 0} (p : Player Voice) where
     goes-on r plays v ready a n h =
         let whole = plays .accepts v ready true (silence a ++ silence n) (rw (← silence-add a n, silence-length) h) in
         let two = plays .in-two v true (silence a) (silence n) whole in
-        let same : runs r v (a + n) ≡ r v true (silence a ++ silence n) = rw silence-add in
-        (sym (map-append some (runs r v a .out) (r (runs r v a .state) false (silence n) .out)) ∙ ap (λ (c : Call Voice). map some (c .out)) (sym (same ∙ two)), ap (λ (c : Call Voice). c .state) (sym (same ∙ two)))
+        let same : runs r v (a + n) ≡ r v true (silence a ++ silence n) = rw silence-add in (
+          sym (map-append some (runs r v a .out) (r (runs r v a .state) false (silence n) .out)) ∙ ap (λ (c : Call Voice). map some (c .out)) (sym (same ∙ two)),
+          ap (λ (c : Call Voice). c .state) (sym (same ∙ two)),
+        )
 
     -- what is left of a run that has come to the next of all cues, and what comes after it: n samples, and the voice alone from its own next cue on
     abbrev alone-after : Render Voice → Voice → ℕ → List (Own Voice) → List (Option Float)
@@ -96,9 +98,10 @@ module _ {Voice : Type 0} (p : Player Voice) where
             let n = until length ss - s .start in
             let bounds = until-in length (s .start) ss (cues .2) in
             let more = ends-in length (s .start) ss (cues .2) in
+            let second = r (runs r v a .state) false (silence n) in
             let on = goes-on r plays v ready a n (omega (arith, bounds .0, bounds .1)) in
             let e : a + n + (ends length (owns ss) - until length ss) ≡ a + (ends length (owns ss) - s .start) = omega (arith, bounds .0, more .0) in
-            sym (append-assoc (map some (runs r v a .out)) (map some (r (runs r v a .state) false (silence n) .out)) (trackFrom (some r) (r (runs r v a .state) false (silence n) .state) ss))
+            sym (append-assoc (map some (runs r v a .out)) (map some (second .out)) (trackFrom (some r) (second .state) ss))
             ∙ ap₂ (λ (xs : List (Option Float)) (w : Voice). xs ++ trackFrom (some r) w ss) (on .0) (on .1)
             ∙ ih r plays v ready (a + n) (omega (arith, bounds .0))
             ∙ ap (λ (k : ℕ). alone-after r v k (owns ss)) e

@@ -35,7 +35,9 @@ cues-from length w (line ∷ ls) same h = go (readLine w line) refl (cues-from l
     go : (x : Told Strike) → readLine w line ≡ x
         → (next w line .«least_start» ≤ length → CuesIn length (next w line .«least_start») (strikesFrom (next w line) ls))
         → CuesIn length (w .«least_start») (onTold x (λ _ strikes. strikes) _∷_ (strikesFrom (next w line) ls))
-    go (refused n) e ih = let kept = least-kept w line e in earlier length (w .«least_start») (next w line .«least_start») (strikesFrom (next w line) ls) (omega (arith, kept)) (ih (omega (arith, kept)))
+    go (refused n) e ih =
+        let kept = least-kept w line e in
+        earlier length (w .«least_start») (next w line .«least_start») (strikesFrom (next w line) ls) (omega (arith, kept)) (ih (omega (arith, kept)))
     go (says s) e ih =
         let q = cue-passed _ _ _ _ e in
         let raised = least-raised w line e in

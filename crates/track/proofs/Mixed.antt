@@ -69,7 +69,8 @@ module _ (out : List Float) (run rest : List (Option Float)) (from to : ℕ) (h 
   mixed-part =
       let size = part-length out from to h within in
       let e : from + (to - from) ≡ to = omega arith in
-      let split : replicate {A = Option Float} to none ≡ replicate from none ++ replicate (to - from) none = ap (λ (k : ℕ). replicate k none) (sym e) ∙ sym (replicate-append-replicate from (to - from) none) in
+      let split : replicate {A = Option Float} to none ≡ replicate from none ++ replicate (to - from) none =
+      ap (λ (k : ℕ). replicate k none) (sym e) ∙ sym (replicate-append-replicate from (to - from) none) in
       rw (split, append-assoc)
       (mixed-append front (mixed part run ++ drop to out) (replicate from none) (replicate (to - from) none ++ rest) nones
       ∙ ap (λ (l : List Float). mixed front (replicate from none) ++ l)

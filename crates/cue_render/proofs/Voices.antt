@@ -1,4 +1,4 @@
--- The four voices may be played by a sheet: with knobs that have passed their questions they refuse no call, and Point 4 is shown of each.
+-- The four voices may be played by a sheet: with knobs that have passed their questions they refuse no call, and a block in two is the whole block.
 use Prim.Native.Nat.{ℕ, zero, suc}
 use Prim.Native.Char.{code}
 use mathlib.Core.Path.{_≡_, refl, ap, _∙_}

@@ -61,7 +61,7 @@ module _ {Voice : Type 0} (p : Player Voice) where
     abbrev runs : Render Voice → Voice → ℕ → Call Voice
     runs r v a = r v true (silence a)
 
-    -- a run goes on over a cut: by Point 4
+    -- a run goes on over a cut: two calls over the parts of a block are one over the whole
     goes-on : (r : Render Voice) → Plays (laws .Ready) r → (v : Voice) → laws .Ready v → (a n : ℕ) → a + n ≤ 16384
         → (map some (runs r v a .out) ++ map some (r (runs r v a .state) false (silence n) .out) ≡ map some (runs r v (a + n) .out))
         × (r (runs r v a .state) false (silence n) .state ≡ runs r v (a + n) .state)

@@ -14,7 +14,7 @@ use Rattle.cue_sheet.proofs.Questions.{KnobsOf}
 use Rattle.track.specs.Track.{Render, Player, isOwn}
 use Rattle.track.specs.Letters.{letterOf}
 
--- of a `render` with knobs that have passed their questions: `Ready` voices accept a block and stay so, and a block in two is one (Point 4); what the
+-- of a `render` with knobs that have passed their questions: `Ready` voices accept a block and stay so, and a block in two is the whole block; what the
 -- buffer held is not read
 pub record Plays {Voice : Type 0} (Ready : Voice → Type 0) (render : Render Voice) : Type 0 where
   pub accepts : (v : Voice) → Ready v → (trigger : Bool) (out : List Float) → length out ≤ 16384 → render v trigger out .number ≡ 0

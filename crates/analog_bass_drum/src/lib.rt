@@ -1,4 +1,6 @@
 // drums/analog_bass_drum.rs: 808 bass drum model, without its sustain mode.
+#![tactic(auto)]
+
 ghost use Rattle.std.specs.Prelude.{◌≡◌, true, cond, length};
 ghost use Rattle.refusal.specs.Refusal.{answer_number};
 ghost use Rattle.block.specs.Block.{samples, after};
@@ -10,7 +12,7 @@ use refusal::Answer;
 use trigger_pulse::TriggerPulse;
 
 #[repr(C)]
-#[derive(Drop)]
+#[derive(Clone, Copy)]
 pub struct AnalogBassDrum {
     pub pulse_remaining_samples: u32,
     pub fm_pulse_remaining_samples: u32,
@@ -30,7 +32,7 @@ pub struct AnalogBassDrum {
 }
 
 #[repr(C)]
-#[derive(Drop)]
+#[derive(Clone, Copy)]
 pub struct Knobs {
     pub f0: f32,
     pub tone: f32,
@@ -40,14 +42,14 @@ pub struct Knobs {
 }
 
 // What a call answers, and the voice after it.
-#[derive(Drop)]
+#[derive(Clone, Copy)]
 pub struct Answered {
     pub answer: Answer,
     pub voice: AnalogBassDrum,
 }
 
 // What stays the same over a block.
-#[derive(Drop)]
+#[derive(Clone, Copy)]
 struct Settings {
     f0: f32,
     scale: f32,
@@ -59,7 +61,7 @@ struct Settings {
 }
 
 // The pulse on the resonator's frequency, and the pulse at its end.
-#[derive(Drop)]
+#[derive(Clone, Copy)]
 struct FmPulse {
     remaining_samples: u32,
     fm_pulse: f32,
@@ -67,7 +69,7 @@ struct FmPulse {
 }
 
 // What of a turn comes to rest after a strike: the new fields of the voice, and what is made of them for what is left of the turn.
-#[derive(Drop)]
+#[derive(Clone, Copy)]
 struct Excitation {
     pulse_remaining_samples: u32,
     fm_pulse_remaining_samples: u32,

@@ -1,4 +1,6 @@
 // drums/analog_snare_drum.rs: 808 snare drum model, without its sustain mode.
+#![tactic(auto)]
+
 ghost use Rattle.std.specs.Prelude.{◌≡◌, true, cond, length};
 ghost use Rattle.std.specs.Float.Ieee.{lt};
 ghost use Rattle.ieee754.specs.Single.{decimal};
@@ -15,7 +17,7 @@ use trigger_pulse::TriggerPulse;
 const MODE_FREQUENCIES: [f32; 5] = [1.00, 2.00, 3.18, 4.16, 5.62];
 
 #[repr(C)]
-#[derive(Drop)]
+#[derive(Clone, Copy)]
 pub struct AnalogSnareDrum {
     pub pulse_remaining_samples: u32,
     pub pulse: f32,
@@ -30,7 +32,7 @@ pub struct AnalogSnareDrum {
 }
 
 #[repr(C)]
-#[derive(Drop)]
+#[derive(Clone, Copy)]
 pub struct Knobs {
     pub f0: f32,
     pub tone: f32,
@@ -39,14 +41,14 @@ pub struct Knobs {
 }
 
 // What a call answers, and the voice after it.
-#[derive(Drop)]
+#[derive(Clone, Copy)]
 pub struct Answered {
     pub answer: Answer,
     pub voice: AnalogSnareDrum,
 }
 
 // What stays the same over a block. Decay and leak are made of the knob `snappy`; here it is clamped.
-#[derive(Drop)]
+#[derive(Clone, Copy)]
 struct Settings {
     q: f32,
     noise_envelope_decay: f32,
@@ -57,7 +59,7 @@ struct Settings {
 }
 
 // The pulse and its low-pass after one sample, and what excites the first mode and the others.
-#[derive(Drop)]
+#[derive(Clone, Copy)]
 struct Excitation {
     remaining_samples: u32,
     pulse: f32,
@@ -67,21 +69,21 @@ struct Excitation {
 }
 
 // The voice after one turn, and its sample.
-#[derive(Drop)]
+#[derive(Clone, Copy)]
 struct Turn {
     voice: AnalogSnareDrum,
     sample: f32,
 }
 
 // A resonator after one sample, and the shell with its part.
-#[derive(Drop)]
+#[derive(Clone, Copy)]
 struct ModeOutput {
     resonator: Svf,
     shell: f32,
 }
 
 // The resonators after one sample, and the shell that they make.
-#[derive(Drop)]
+#[derive(Clone, Copy)]
 struct ShellOutput {
     resonator: [Svf; 5],
     shell: f32,

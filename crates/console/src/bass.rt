@@ -6,7 +6,7 @@ use analog_bass_drum::{AnalogBassDrum, Knobs};
 
 // The number of the refusal, 0 for an accepted call, and the voice after the call.
 #[repr(C)]
-#[derive(Drop)]
+#[derive(Clone, Copy)]
 pub struct AnalogBassDrumAnswered {
     pub number: u32,
     pub voice: AnalogBassDrum,

@@ -6,7 +6,7 @@ use hihat::VcaType;
 
 // A filter's output: low-pass, or high-pass where `high_or_normalized` is set; with `band_pass` the band-pass, or the normalized one.
 #[repr(C)]
-#[derive(Drop)]
+#[derive(Clone, Copy)]
 pub struct FilterMode {
     pub band_pass: bool,
     pub high_or_normalized: bool,
@@ -14,7 +14,7 @@ pub struct FilterMode {
 
 // How a frequency becomes a coefficient: dirty where that is set, else fast where that is set, else accurate.
 #[repr(C)]
-#[derive(Drop)]
+#[derive(Clone, Copy)]
 pub struct FrequencyApproximation {
     pub fast: bool,
     pub dirty: bool,

@@ -10,7 +10,7 @@ use hihat::{Hihat, Knobs, SquareNoise};
 
 // The number of the refusal, 0 for an accepted call, and the voice after the call.
 #[repr(C)]
-#[derive(Drop)]
+#[derive(Clone, Copy)]
 pub struct HihatAnswered {
     pub number: u32,
     pub voice: Hihat,

@@ -7,7 +7,7 @@ use cue_sheet::Judgment;
 
 // The answer to a sheet. An accepted one has number 0 and line 0; of a refused one rate, length and cues are 0.
 #[repr(C)]
-#[derive(Drop)]
+#[derive(Clone, Copy)]
 pub struct SheetAnswered {
     pub number: u32,
     pub line: u32,

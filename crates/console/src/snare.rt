@@ -6,7 +6,7 @@ use analog_snare_drum::{AnalogSnareDrum, Knobs};
 
 // The number of the refusal, 0 for an accepted call, and the voice after the call.
 #[repr(C)]
-#[derive(Drop)]
+#[derive(Clone, Copy)]
 pub struct AnalogSnareDrumAnswered {
     pub number: u32,
     pub voice: AnalogSnareDrum,

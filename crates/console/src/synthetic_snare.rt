@@ -6,7 +6,7 @@ use synthetic_snare_drum::{Knobs, SyntheticSnareDrum};
 
 // The number of the refusal, 0 for an accepted call, and the voice after the call.
 #[repr(C)]
-#[derive(Drop)]
+#[derive(Clone, Copy)]
 pub struct SyntheticSnareDrumAnswered {
     pub number: u32,
     pub voice: SyntheticSnareDrum,

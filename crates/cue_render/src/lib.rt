@@ -1,5 +1,7 @@
 // A cue sheet rendered to samples: voice after voice over the whole buffer, each from init and struck by its own cues alone. That this gives the samples of
 // the segments into which all cues cut a sheet is a theorem (crates/track/proofs/Alone.antt), and the contract cites the segments.
+#![tactic(auto)]
+
 mod bass; // bass.rt and the next three: a voice's track, added to the buffer
 mod hi_hat;
 mod mix; // mix.rt: silence, and blocks added sample by sample

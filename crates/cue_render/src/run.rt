@@ -8,7 +8,7 @@ ghost use Rattle.cue_render.specs.Run.{left, of_voice, from_line};
 use cue_sheet::{Cue, Line, Step, Walk};
 
 // From a place of the buffer to another.
-#[derive(Drop)]
+#[derive(Clone, Copy)]
 pub(crate) struct Run {
     pub(crate) from: usize,
     pub(crate) to: usize,

@@ -5,7 +5,7 @@ ghost use Rattle.cue_sheet.specs.Answer as spec;
 use refusal::Refusal;
 
 // What the voices ask of a cue's knobs keeps its number, 3 to 5; the sheet's own questions have 7 to 11, in this order.
-#[derive(Drop)]
+#[derive(Clone, Copy)]
 pub enum SheetRefusal {
     Knobs(Refusal),
     FirstLine,

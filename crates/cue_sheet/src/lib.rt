@@ -1,4 +1,6 @@
 // A cue sheet: its lines read, one walk over them, and the sheet judged. Nothing is stored: whoever renders a sheet walks over its lines again.
+#![tactic(auto)]
+
 mod answer; // answer.rt: the sheet's own refusals
 mod field; // field.rt: a line's fields
 mod line; // line.rt: one cue line
@@ -12,13 +14,13 @@ pub use answer::SheetRefusal;
 pub use line::{Cue, Line, read_cue};
 
 // What the first line says.
-#[derive(Drop)]
+#[derive(Clone, Copy)]
 pub struct Head {
     pub rate: u32,
     pub length: u32,
 }
 
-#[derive(Drop)]
+#[derive(Clone, Copy)]
 pub enum FirstLine {
     Head(Head),
     Invalid,
@@ -26,7 +28,7 @@ pub enum FirstLine {
 
 // Where a walk over the lines after the first has come to: the place and the number of the next line, the cues read so far, and the lowest
 // start that the next cue may have.
-#[derive(Drop)]
+#[derive(Clone, Copy)]
 pub struct Walk {
     pub head: Head,
     pub place: usize,
@@ -36,14 +38,14 @@ pub struct Walk {
 }
 
 // What a line says, and the walk after it.
-#[derive(Drop)]
+#[derive(Clone, Copy)]
 pub struct Step {
     pub line: Line,
     pub walk: Walk,
 }
 
 // Of a refused sheet, the question and the line, counted from 1.
-#[derive(Drop)]
+#[derive(Clone, Copy)]
 pub enum Judgment {
     Accepted { head: Head, cues: u32 },
     Refused { refusal: SheetRefusal, line: u32 },

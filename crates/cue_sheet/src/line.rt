@@ -13,7 +13,7 @@ use refusal::{Refusal, is_bass_decay, is_frequency, is_unit};
 use text::read::pattern;
 
 // One of four strikes, each with its own knobs.
-#[derive(Drop)]
+#[derive(Clone, Copy)]
 pub enum Cue {
     Bass {
         accent: f32,
@@ -46,14 +46,14 @@ pub enum Cue {
 }
 
 // What a line says: a cue with its start, or the question that it does not pass.
-#[derive(Drop)]
+#[derive(Clone, Copy)]
 pub enum Line {
     Cue(u32, Cue),
     Refused(SheetRefusal),
 }
 
 // The fields of a line. It is well formed if it has a line end and seven fields that are. What a and c set depends on the voice, a letter.
-#[derive(Drop)]
+#[derive(Clone, Copy)]
 struct Fields {
     formed: bool,
     start: u32,
@@ -66,7 +66,7 @@ struct Fields {
 }
 
 // A knob's field: whether it is well formed, its knob, and the place after it.
-#[derive(Drop)]
+#[derive(Clone, Copy)]
 struct KnobField {
     formed: bool,
     knob: f32,

@@ -1,5 +1,7 @@
 // Reads a cue sheet from standard input, and prints its samples or its refusal. An accepted sheet has at most 3,404 bytes;
 // a longer input gets the answer of its first 4,096.
+#![tactic(auto)]
+
 use libc::{STDIN_FILENO, STDOUT_FILENO};
 
 fn main() {

@@ -1,10 +1,12 @@
 // The input of the program `draws`: `state,count` and a line end.
+#![tactic(auto)]
+
 ghost use Rattle.std.specs.Prelude.{◌≡◌};
 ghost use Rattle.draw_request.specs.Requests as Requests;
 
 use text::read::Number;
 
-#[derive(Drop)]
+#[derive(Clone, Copy)]
 pub enum Request {
     Draws { state: u32, count: u32 },
     Refused,

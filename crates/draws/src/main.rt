@@ -1,6 +1,8 @@
 // Reads `state,count` and a line end from standard input, and prints that many draws of the noise generator from that state.
 // 17 bytes of the input are enough: one of more than 16 is refused, and so are its first 17 (`long_refused` in the proofs of
 // `draw_request`).
+#![tactic(auto)]
+
 use libc::{STDIN_FILENO, STDOUT_FILENO};
 
 fn main() {

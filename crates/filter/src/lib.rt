@@ -1,9 +1,11 @@
 // utils/filter.rs: zero-delay-feedback filters, one pole and state variable. A filter goes in by value and comes back with its output.
+#![tactic(auto)]
+
 ghost use Rattle.core.specs.Prelude.{◌≡◌, min};
 ghost use Rattle.filter.specs.OnePole as one-pole;
 ghost use Rattle.filter.specs.Svf as svf;
 
-#[derive(Drop)]
+#[derive(Clone, Copy)]
 pub enum FilterMode {
     LowPass,
     BandPass,
@@ -12,7 +14,7 @@ pub enum FilterMode {
 }
 
 // Without the Rust's `Exact`.
-#[derive(Drop)]
+#[derive(Clone, Copy)]
 pub enum FrequencyApproximation {
     Accurate,
     Fast,
@@ -51,7 +53,7 @@ const ACCURATE_D: f32 = 2.900525e-03 * M_PI_POW_9;
 const ACCURATE_E: f32 = 9.5168091e-03 * M_PI_POW_11;
 
 #[repr(C)]
-#[derive(Drop)]
+#[derive(Clone, Copy)]
 pub struct OnePole {
     pub g: f32,
     pub gi: f32,
@@ -60,7 +62,7 @@ pub struct OnePole {
 
 // A filter after one sample, and its output.
 #[repr(C)]
-#[derive(Drop)]
+#[derive(Clone, Copy)]
 pub struct OnePoleOutput {
     pub filter: OnePole,
     pub out: f32,
@@ -129,7 +131,7 @@ impl OnePole {
 }
 
 #[repr(C)]
-#[derive(Drop)]
+#[derive(Clone, Copy)]
 pub struct Svf {
     pub g: f32,
     pub r: f32,
@@ -140,7 +142,7 @@ pub struct Svf {
 
 // A filter after one sample, and its output in one mode.
 #[repr(C)]
-#[derive(Drop)]
+#[derive(Clone, Copy)]
 pub struct SvfOutput {
     pub filter: Svf,
     pub out: f32,
@@ -148,7 +150,7 @@ pub struct SvfOutput {
 
 // A filter after one sample, and its outputs in two modes.
 #[repr(C)]
-#[derive(Drop)]
+#[derive(Clone, Copy)]
 pub struct SvfDualOutput {
     pub filter: Svf,
     pub out_1: f32,
@@ -156,7 +158,7 @@ pub struct SvfDualOutput {
 }
 
 // A filter after one sample, and what the modes choose from.
-#[derive(Drop)]
+#[derive(Clone, Copy)]
 struct Passed {
     filter: Svf,
     lp: f32,

@@ -1,5 +1,7 @@
 // drums/hihat.rs: 808 hi-hat model, with the square noise as its source. The Rust makes five passes over the block; here each sample goes through
 // all five in turn. That both leave the same block and the same voice is a theorem (proofs/OnePass.antt), and the contract cites the passes.
+#![tactic(auto)]
+
 mod square_noise; // square_noise.rt: the metallic noise
 mod turn; // turn.rt: one sample through the passes
 
@@ -17,14 +19,14 @@ use refusal::Answer;
 pub use square_noise::SquareNoise;
 use turn::Turn;
 
-#[derive(Drop)]
+#[derive(Clone, Copy)]
 pub enum VcaType {
     Swing,
     Linear,
 }
 
 #[repr(C)]
-#[derive(Drop)]
+#[derive(Clone, Copy)]
 pub struct Hihat {
     pub sample_rate: f32,
     pub envelope: f32,
@@ -39,7 +41,7 @@ pub struct Hihat {
 
 // The parameters of `render`, but for the trigger and the kind of the VCA.
 #[repr(C)]
-#[derive(Drop)]
+#[derive(Clone, Copy)]
 pub struct Knobs {
     pub sustain: bool,
     pub accent: f32,
@@ -52,14 +54,14 @@ pub struct Knobs {
 }
 
 // What a call answers, and the voice after it.
-#[derive(Drop)]
+#[derive(Clone, Copy)]
 pub struct Answered {
     pub answer: Answer,
     pub voice: Hihat,
 }
 
 // What stays the same over a block.
-#[derive(Drop)]
+#[derive(Clone, Copy)]
 struct Settings {
     envelope_decay: f32,
     cut_decay: f32,

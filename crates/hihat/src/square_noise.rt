@@ -7,7 +7,7 @@ ghost use Rattle.hihat.specs.SquareNoise as spec;
 const RATIOS: [f32; 6] = [1.0, 1.304, 1.466, 1.787, 1.932, 2.536];
 
 #[repr(C)]
-#[derive(Drop)]
+#[derive(Clone, Copy)]
 pub struct SquareNoise {
     pub phase: [u32; 6],
 }

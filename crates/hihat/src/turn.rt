@@ -7,7 +7,7 @@ use crate::{Hihat, Settings, VcaType};
 use filter::FilterMode;
 
 // A sample on its way through the passes, with the voice.
-#[derive(Drop)]
+#[derive(Clone, Copy)]
 pub struct Turn {
     pub voice: Hihat,
     pub sample: f32,

@@ -1,6 +1,8 @@
 // Conversions and operations of IEEE 754-2019 on `f32`, its minimum and maximum operations on `f64`
 // too, and the bit patterns of `f32`. Each function has a result for every input. The contracts know
 // one not-a-number: where a result is one, its pattern is left open.
+#![tactic(auto)]
+
 mod convert;
 mod min_max;
 mod min_max_f64;

@@ -6,7 +6,7 @@ ghost use Rattle.ieee754.specs.Root as Root;
 use crate::pattern::{packed, significand};
 
 // A whole number's square root without its fraction, and what its square leaves of the number.
-#[derive(Drop)]
+#[derive(Clone, Copy)]
 struct Extracted {
     root: u64,
     rest: u64,

@@ -1,10 +1,12 @@
 // utils/parameter_interpolator.rs: a value that slides to a new one over a block, in equal steps.
 // The Rust holds a reference and stores the value through it on `Drop`; here the caller takes the value back after the block.
+#![tactic(auto)]
+
 ghost use Rattle.std.specs.Prelude.{◌≡◌};
 ghost use Rattle.parameter_interpolator.specs.ParameterInterpolator as spec;
 
 #[repr(C)]
-#[derive(Drop)]
+#[derive(Clone, Copy)]
 pub struct ParameterInterpolator {
     pub value: f32,
     pub increment: f32,

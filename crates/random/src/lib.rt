@@ -1,4 +1,6 @@
 // utils/random.rs: a linear congruential generator of 32 bits. The state, a static in the Rust, goes in and comes back.
+#![tactic(auto)]
+
 ghost use Rattle.std.specs.Prelude.{◌≡◌, ◌*◌, ◌%◌, ◌^◌, ◌<◌};
 ghost use Rattle.random.specs.Random as spec;
 
@@ -6,7 +8,7 @@ use std::num::wrapping_add_u32;
 
 // A float drawn. The word drawn with it is the next state.
 #[repr(C)]
-#[derive(Drop)]
+#[derive(Clone, Copy)]
 pub struct Draw {
     pub word: u32,
     pub value: f32,

@@ -1,9 +1,11 @@
 // What a call of a voice answers: accepted, or refused by the first question that it does not pass; and the questions, one by one.
+#![tactic(auto)]
+
 ghost use Rattle.std.specs.Prelude.{◌≡◌};
 ghost use Rattle.refusal.specs.Refusal as spec;
 
 // The questions of a voice's call, by what they ask for, in the order of their numbers.
-#[derive(Drop)]
+#[derive(Clone, Copy)]
 pub enum Refusal {
     SampleRate,
     BlockLength,
@@ -12,7 +14,7 @@ pub enum Refusal {
     Knob,
 }
 
-#[derive(Drop)]
+#[derive(Clone, Copy)]
 pub enum Answer {
     Accepted,
     Refused(Refusal),

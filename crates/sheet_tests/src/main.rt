@@ -1,4 +1,6 @@
 // Prints the name of each sheet that the arguments name, and what `cues` prints for it.
+#![tactic(auto)]
+
 use libc::STDOUT_FILENO;
 
 fn print_sheet(name: &[u8]) {

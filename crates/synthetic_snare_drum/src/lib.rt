@@ -1,4 +1,6 @@
 // drums/synthetic_snare_drum.rs: naive snare drum model, two modulated oscillators and filtered noise, with its sustain mode.
+#![tactic(auto)]
+
 ghost use Rattle.std.specs.Prelude.{◌≡◌, cond, ℕ, ◌≤◌, length};
 ghost use Rattle.std.specs.Float.Ieee.{lt, neg};
 ghost use Rattle.ieee754.specs.Single.{◌⊕◌, ◌⊖◌, decimal};
@@ -14,7 +16,7 @@ use parameter_interpolator::ParameterInterpolator;
 use refusal::Answer;
 
 #[repr(C)]
-#[derive(Drop)]
+#[derive(Clone, Copy)]
 pub struct SyntheticSnareDrum {
     pub sample_rate_hz: f32,
     pub phase: [f32; 2],
@@ -31,7 +33,7 @@ pub struct SyntheticSnareDrum {
 
 // The parameters of a block.
 #[repr(C)]
-#[derive(Drop)]
+#[derive(Clone, Copy)]
 pub struct Knobs {
     pub sustain: bool,
     pub accent: f32,
@@ -42,14 +44,14 @@ pub struct Knobs {
 }
 
 // What a call answers, and the voice after it.
-#[derive(Drop)]
+#[derive(Clone, Copy)]
 pub struct Answered {
     pub answer: Answer,
     pub voice: SyntheticSnareDrum,
 }
 
 // What stays the same over a block: fm_amount is squared here, and snappy clamped.
-#[derive(Drop)]
+#[derive(Clone, Copy)]
 struct Settings {
     sustain: bool,
     f0: f32,
@@ -64,7 +66,7 @@ struct Settings {
 }
 
 // One turn of the loop: the voice after it, and its sample.
-#[derive(Drop)]
+#[derive(Clone, Copy)]
 struct Turn {
     voice: SyntheticSnareDrum,
     sample: f32,

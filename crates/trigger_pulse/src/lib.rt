@@ -1,8 +1,10 @@
 // The trigger pulse of the analog voices: a countdown at its height, a last sample one lower, then a decay.
+#![tactic(auto)]
+
 ghost use Rattle.std.specs.Prelude.{◌≡◌};
 ghost use Rattle.trigger_pulse.specs.TriggerPulse as spec;
 
-#[derive(Drop)]
+#[derive(Clone, Copy)]
 pub struct TriggerPulse {
     pub remaining_samples: u32,
     pub pulse: f32,

@@ -1,4 +1,6 @@
 // utils/units.rs: pitches in semitones as ratios of frequencies.
+#![tactic(auto)]
+
 ghost use Rattle.std.specs.Prelude.{◌≡◌};
 ghost use Rattle.units.specs.Units as spec;
 ghost use Rattle.units.specs.Accuracy.{InTables, Accurate};

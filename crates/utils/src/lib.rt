@@ -1,4 +1,6 @@
 // utils/mod.rs: small functions that the filters and the voices share. What the Rust changes through `&mut f32` goes in and comes back.
+#![tactic(auto)]
+
 ghost use Rattle.std.specs.Prelude.{◌≡◌};
 ghost use Rattle.utils.specs.Utils as spec;
 

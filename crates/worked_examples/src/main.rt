@@ -1,4 +1,6 @@
 // The examples at the edges that are run: each prints the number that a call answers, 0 where it is accepted. Those that are theorems are in proofs/Table.antt.
+#![tactic(auto)]
+
 use analog_bass_drum::AnalogBassDrum;
 use cue_sheet::Judgment;
 use hihat::{Hihat, VcaType};

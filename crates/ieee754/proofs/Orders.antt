@@ -134,7 +134,7 @@ by_value = record { at = go }
     go (inf false) (fin t n d) = (refl, refl)
     go (fin s m e) (inf true) = (refl, refl)
     go (fin s m e) (inf false) = (refl, refl)
-    go (fin s m e) (fin t n d) = by_sign (refl, refl) s t _ _ (λ p l _ f F G. one_value f _ _ F G (rw p (same_bits f t m n e d l)))
+    go (fin s m e) (fin t n d) = by_sign {x = fin s m e} {y = fin t n d} (refl, refl) s t _ _ (λ p l _ f F G. one_value f _ _ F G (rw p (same_bits f t m n e d l)))
 
 -- ---- by magnitude
 

@@ -1,0 +1,7 @@
+-- The number and the byte are one text.
+use Rattle.text.proofs.Written.{then}
+use borrow.Author.Rules.{rules}
+use Rattle.text.proofs.write.number.Goals as goal
+
+pub returns : goal.returns
+returns c = search then

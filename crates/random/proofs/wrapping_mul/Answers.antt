@@ -1,7 +1,6 @@
 -- The low 32 bits of a product, put together from three products of 16-bit halves: for all numbers, so for every two of 32 bits.
 use Rattle.std.proofs.Common.{◌≡◌, ℕ, ◌+◌, ◌*◌, ◌/◌, ◌%◌, ◌^◌, div-add-mod', arith, rules}
-use Rattle.random.proofs.wrapping_mul.Statement.{statement}
-use Rattle.random.proofs.wrapping_mul.Tie as tie
+use Rattle.random.proofs.wrapping_mul.Goals as goal
 
 -- two numbers in halves, multiplied out
 multiplied : (ah al bh bl : ℕ) → (ah * 2 ^ 16 + al) * (bh * 2 ^ 16 + bl) ≡ al * bl + (ah * bl + al * bh) * 2 ^ 16 + ah * bh * 2 ^ 32
@@ -13,8 +12,5 @@ halves : (a b : ℕ) →
 halves a b =
     omega (arith, rw (div-add-mod' a (2 ^ 16), div-add-mod' b (2 ^ 16)) at (multiplied (a / 2 ^ 16) (a % 2 ^ 16) (b / 2 ^ 16) (b % 2 ^ 16)))
 
-pub wrapping_mul_spec : {M : Type 1} → statement M
-wrapping_mul_spec =
-    tie.close
-    (tie.spec (λ c κs. search rules) (λ c κs. search rules) (λ c κs. search rules) (λ c κs. search rules) (λ c κs. search rules)
-    (λ c. let a = c.before.before.before.before.before.args in cc (halves a.a a.b)))
+pub returns : goal.returns
+returns c = let a = c.args in cc (halves a.a a.b)

@@ -1,0 +1,6 @@
+-- The definition, of the size as a float.
+use borrow.Author.Rules.{rules}
+use Rattle.parameter_interpolator.proofs.ParameterInterpolator.new.Goals as goal
+
+pub returns : goal.returns
+returns c = rw c.nearest_f32.ensures

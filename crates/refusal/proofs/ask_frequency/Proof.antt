@@ -1,6 +1,0 @@
--- The question by its definition, and what `ask` makes of it.
-use Rattle.refusal.proofs.ask_frequency.Statement.{statement}
-use Rattle.refusal.proofs.ask_frequency.Tie as tie
-
-pub ask_frequency_spec : {M : Type 1} → statement M
-ask_frequency_spec = tie.close (tie.spec (λ c κs. tt) (λ c κs. tt) (λ c. rw (c.ask.ensures, c.before.is-frequency.ensures)))

@@ -1,7 +1,6 @@
 -- The laws of `units` beside the proofs of its functions.
 mod Powers
 mod Table
-mod Lookup
 mod Fractions
 mod Entries
 mod PitchPlaces

@@ -1,28 +1,13 @@
 -- The laws of `Accuracy`, for each of the two answers; both places are below 256.
 use lib.Ieee.{of_bits, round}
-use borrow.Author.Rules.{rules}
 use Rattle.units.proofs.Accuracy.{held, pitch_places, looked_up}
 use Rattle.units.proofs.semitones_to_ratio.Goals as goal
 
-pub high-requires : goal.high-requires
-unfolding round of_bits
-high-requires c = search rules
-
-pub low-requires : goal.low-requires
-unfolding round of_bits
-low-requires c = search rules
-
 pub returns-then-pitch : goal.returns-then-pitch
 unfolding round of_bits
-returns-then-pitch c = held _ c.if-pitch.true _ (rw (c.low.ensures, c.high.ensures))
-
-pub truncate_usize-pitch_integral-requires : goal.truncate_usize-pitch_integral-requires
-unfolding round of_bits
-truncate_usize-pitch_integral-requires c = search rules
-
-pub truncate_usize-step-requires : goal.truncate_usize-step-requires
-unfolding round of_bits
-truncate_usize-step-requires c = search rules
+returns-then-pitch c =
+    let p = held _ c.if-pitch.true _ (rw (c.low.ensures, c.high.ensures)) in
+    record { value = p.0; accurate = p.1 }
 
 pub overflow_cast-pitch_integral : goal.overflow_cast-pitch_integral
 unfolding round of_bits
@@ -30,5 +15,6 @@ overflow_cast-pitch_integral c = record { fits = rw c.truncate_usize-pitch_integ
 
 pub returns : goal.returns
 unfolding round of_bits
-returns c = looked_up _ c.if-pitch.false _
-    (rw (c.low-2.ensures, c.high-2.ensures, c.truncate_usize-step.ensures, c.truncate_usize-pitch_integral.ensures))
+returns c =
+    let p = looked_up _ c.if-pitch.false _ (rw (c.low-2.ensures, c.high-2.ensures, c.truncate_usize-step.ensures, c.truncate_usize-pitch_integral.ensures)) in
+    record { value = p.0; accurate = p.1 }

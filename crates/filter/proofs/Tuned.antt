@@ -1,5 +1,5 @@
 -- A filter that is set stays so: a sample changes its state alone, so to set it again as it was set changes nothing.
-use Rattle.core.specs.Prelude.{◌≡◌}
+use Rattle.std.specs.Prelude.{◌≡◌}
 use mathlib.Core.Path.{ap}
 use lib.Ieee.{Float}
 use Rattle.filter.specs.declared.OnePole.{OnePole}

@@ -1,5 +1,5 @@
 -- utils/filter.rs: `Svf`, the state variable filter. Definitions only.
-use Rattle.core.specs.Prelude.{List, ◌++◌, length, take, drop}
+use Rattle.std.specs.Prelude.{List, ◌++◌, length, take, drop}
 use Rattle.std.specs.Prelude.{Float}
 use Rattle.ieee754.specs.Single.{◌⊕◌, ◌⊖◌, ◌⊗◌, ◌⊘◌, decimal}
 use Rattle.block.specs.Block as Block

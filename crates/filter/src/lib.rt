@@ -1,8 +1,8 @@
 // utils/filter.rs: zero-delay-feedback filters, one pole and state variable. A filter goes in by value and comes back with its output.
 #![tactic(auto)]
 
-ghost use Rattle.core.specs.Prelude.{◌≡◌, min};
-ghost use Rattle.filter.specs.OnePole as one-pole;
+ghost use Rattle.std.specs.Prelude.{◌≡◌, min};
+ghost use Rattle.filter.specs.OnePole as one_pole;
 ghost use Rattle.filter.specs.Svf as svf;
 
 #[derive(Clone, Copy)]
@@ -77,20 +77,20 @@ impl OnePole {
     };
 
     pub fn init(self) -> Self
-        ensures { result ≡ one-pole.init self }
+        ensures { result ≡ one_pole.init self }
     {
         self.set_f(0.01, FrequencyApproximation::Dirty).reset()
     }
 
     pub fn reset(self) -> Self
-        ensures { result ≡ one-pole.reset self }
+        ensures { result ≡ one_pole.reset self }
     {
         OnePole { state: 0.0, ..self }
     }
 
     // The tangent of pi f, approximated.
     pub fn tan(f: f32, approximation: FrequencyApproximation) -> f32
-        ensures { result ≡ one-pole.tan f approximation }
+        ensures { result ≡ one_pole.tan f approximation }
     {
         match approximation {
             FrequencyApproximation::Dirty => f * (M_PI_F + DIRTY_A * f * f),
@@ -107,7 +107,7 @@ impl OnePole {
     }
 
     pub fn set_f(mut self, f: f32, approximation: FrequencyApproximation) -> Self
-        ensures { result ≡ one-pole.set_f self f approximation }
+        ensures { result ≡ one_pole.set_f self f approximation }
     {
         let g = OnePole::tan(f, approximation);
         self.g = g;
@@ -116,7 +116,7 @@ impl OnePole {
     }
 
     pub fn process(mut self, in_: f32, mode: FilterMode) -> OnePoleOutput
-        ensures { result ≡ one-pole.process self in_ mode }
+        ensures { result ≡ one_pole.process self in_ mode }
     {
         let lp = (self.g * in_ + self.state) * self.gi;
         self.state = self.g * (in_ - lp) + lp;

@@ -1,9 +1,0 @@
--- The definition, of what the two calls give; the literals agree by computing.
-use borrow.Author.Rules.{rules}
-use lib.Ieee.{round, of_bits}
-use Rattle.filter.proofs.OnePole.init.Statement.{statement}
-use Rattle.filter.proofs.OnePole.init.Tie as tie
-
-pub init_spec : {M : Type 1} → statement M
-unfolding round of_bits
-init_spec = tie.close (tie.spec (λ c κs. search rules) (λ c κs. search rules) (λ c. rw (c.reset.ensures, c.before.set-f.ensures)))

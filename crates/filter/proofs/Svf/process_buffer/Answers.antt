@@ -1,0 +1,29 @@
+-- `block`'s loop of a stage, over as many samples as the shorter slice has; `process` is its stage.
+use borrow.Author.Rules.{rules}
+use Rattle.std.specs.Prelude.{◌-◌, ◌<◌, length, take}
+use native.Mathlib.Omega.{arith}
+use lib.ListN.{length-take}
+use lib.Seq.{get_or-take}
+use lib.Ieee.{nan}
+use Rattle.block.proofs.Blocks.{Going, begin, turn, end}
+use Rattle.filter.specs.Svf.{stage}
+use Rattle.filter.proofs.Svf.process_buffer.Goals as goal
+
+pub loop-i-init : goal.loop-i-init
+loop-i-init c = begin _ _ _ _ (simp length-take (omega arith))
+
+pub shape_of-out : goal.shape_of-out
+shape_of-out c = c.loop-i.invariant.long
+
+pub returns : goal.returns
+returns c =
+    let p = end _ _ _ _ _ _ _ c.loop-i.invariant (simp length-take (omega arith)) in
+    record { filter = p.0; out = p.1 }
+
+pub loop-i-preserved : goal.loop-i-preserved
+unfolding stage
+loop-i-preserved c =
+    let a = c.args in
+    let h : c.loop-i.i < length a.out.now = omega arith in
+    rw (c.process-o.ensures, ← get_or-take (length a.out.now) a.in_.now c.loop-i.i nan h)
+    (turn (stage a.mode) _ _ _ _ _ _ c.loop-i.invariant (simp length-take (omega arith)))

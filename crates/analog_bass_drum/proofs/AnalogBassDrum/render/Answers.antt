@@ -1,0 +1,22 @@
+-- The number of the answer decides what the call leaves.
+use borrow.Author.Rules.{rules}
+use mathlib.Core.Path.{refl}
+use Rattle.refusal.proofs.ByNumber.{zero_of, suc_of}
+use Rattle.analog_bass_drum.proofs.AnalogBassDrum.render.Goals as goal
+
+pub returns-in-Refused : goal.returns-in-Refused
+returns-in-Refused c = let known = c.asked-answer.ensures in
+    record {
+      number = known;
+      voice = rw (suc_of _ _ known _ c.in-Refused.is) refl;
+      out = rw (suc_of _ _ known _ c.in-Refused.is) refl;
+    }
+
+pub returns-in-Accepted : goal.returns-in-Accepted
+returns-in-Accepted c = let known = c.asked-answer.ensures in
+    let none = zero_of _ _ known c.in-Accepted.is in
+    record {
+      number = known;
+      voice = rw (c.run-voice.ensures.0, c.run-voice.ensures.1, c.settings-settings.ensures, c.triggered.ensures, none) refl;
+      out = rw (c.run-voice.ensures.0, c.run-voice.ensures.1, c.settings-settings.ensures, c.triggered.ensures, none) refl;
+    }

@@ -1,0 +1,24 @@
+-- The number of the answer decides what the call leaves; an accepted one's block is short, and its one pass leaves what the five passes leave.
+use Rattle.std.proofs.Common.{refl, rules}
+use Rattle.refusal.proofs.ByNumber.{zero_of, suc_of, short_block}
+use Rattle.hihat.specs.Hihat.{render_refusal}
+use Rattle.hihat.proofs.OnePass.{five_passes}
+use Rattle.hihat.proofs.Hihat.render.Goals as goal
+
+pub returns-in-Refused : goal.returns-in-Refused
+returns-in-Refused c = let known = c.asked-answer.ensures in
+    record {
+      number = known;
+      voice = rw (suc_of _ _ known _ c.in-Refused.is) refl;
+      out = rw (suc_of _ _ known _ c.in-Refused.is) refl;
+    }
+
+pub settings-settings-requires : goal.settings-settings-requires
+unfolding render_refusal
+settings-settings-requires c = short_block _ _ _ (zero_of _ _ c.asked-answer.ensures c.in-Accepted.is)
+
+pub returns-in-Accepted : goal.returns-in-Accepted
+returns-in-Accepted c = let known = c.asked-answer.ensures in
+    let none = zero_of _ _ known c.in-Accepted.is in
+    let left = rw (c.tuned.ensures, c.triggered.ensures, c.settings-settings.ensures) at c.run-voice.ensures in
+    (known, rw (none, five_passes) left)

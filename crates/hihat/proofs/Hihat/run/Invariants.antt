@@ -1,0 +1,14 @@
+use Rattle.std.proofs.Common.{◌-◌, length, get_or, ap, append-nil, arith, length-set, rules}
+use lib.Seq.{drop-length}
+use lib.Ieee.{nan}
+use Rattle.block.specs.Block.{Turn}
+use Rattle.block.proofs.Blocks.{Going, begin, turn, end}
+use Rattle.hihat.specs.declared.Hihat.{Hihat}
+use Rattle.hihat.specs.OnePass.{step}
+use Rattle.hihat.proofs.Hihat.run.Given as goal
+
+abbrev pub invariant-loop-i : goal.invariant-loop-i
+invariant-loop-i l = Going (step l.settings) l.initial.voice l.initial.out l.initial.out l.voice l.out l.i
+
+abbrev pub decreases-loop-i : goal.decreases-loop-i
+decreases-loop-i l = length l.out - l.i

@@ -1,0 +1,12 @@
+-- The definition's two arms, by the trigger.
+use lib.Ieee.{round, of_bits}
+use Rattle.hihat.specs.Hihat.{triggered}
+use Rattle.hihat.proofs.Hihat.triggered.Goals as goal
+
+pub returns-then-trigger : goal.returns-then-trigger
+unfolding triggered round of_bits
+returns-then-trigger c = rw c.if-trigger.true
+
+pub returns-else-trigger : goal.returns-else-trigger
+unfolding triggered round of_bits
+returns-else-trigger c = rw c.if-trigger.false

@@ -1,0 +1,12 @@
+-- Line by line the definition, the last call first.
+use Rattle.std.proofs.Common.{rules}
+use lib.Ieee.{round, of_bits}
+use Rattle.hihat.specs.Hihat.{settings}
+use Rattle.hihat.proofs.Knobs.settings.Goals as goal
+
+pub returns : goal.returns
+unfolding settings round of_bits
+returns c =
+    rw (c.clamp-2.ensures, c.q.ensures, c.clamp.ensures, c.semitones_to_ratio-3.ensures.0)
+    (rw (c.increments.ensures, c.semitones_to_ratio-2.ensures.0)
+    (rw (c.semitones_to_ratio.ensures.0, c.new-gain.ensures)))

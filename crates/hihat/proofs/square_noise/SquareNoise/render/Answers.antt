@@ -1,0 +1,20 @@
+-- The loop's law of `block`, over the increments of f0.
+use Rattle.std.proofs.Common.{◌-◌, length, arith, length-set, rules}
+use Rattle.block.specs.Block.{source}
+use Rattle.block.proofs.Blocks.{Going, begin, turn as going, end_source}
+use Rattle.hihat.specs.SquareNoise.{turn}
+use Rattle.hihat.proofs.square_noise.SquareNoise.render.Goals as goal
+
+pub loop-i-init : goal.loop-i-init
+loop-i-init c = begin _ _ _ _ (omega arith)
+
+pub loop-i-smaller : goal.loop-i-smaller
+loop-i-smaller c = simp length-set (omega arith)
+
+pub returns : goal.returns
+returns c = rw (← c.increments-increment.ensures) (end_source _ _ _ _ _ _ c.loop-i.invariant c.loop-i-test.false)
+
+pub loop-i-preserved : goal.loop-i-preserved
+loop-i-preserved c =
+    let l = c.loop-i in
+    rw (c.level.ensures, c.advanced-noise.ensures) (going _ _ _ _ _ _ _ l.invariant (omega (arith, l.invariant.long)))

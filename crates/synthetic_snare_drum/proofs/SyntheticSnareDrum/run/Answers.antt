@@ -1,0 +1,24 @@
+-- The loop's law of `block`.
+use borrow.Author.Rules.{rules}
+use Prim.Native.Nat.{◌-◌}
+use native.Mathlib.Omega.{arith}
+use lib.ListN.{length, length-set}
+use Rattle.block.specs.Block.{source}
+use Rattle.block.proofs.Blocks.{Going, begin, turn, end_source}
+use Rattle.synthetic_snare_drum.specs.SyntheticSnareDrum.{step}
+use Rattle.synthetic_snare_drum.proofs.SyntheticSnareDrum.run.Goals as goal
+
+pub loop-i-init : goal.loop-i-init
+loop-i-init c = begin _ _ _ _ (omega arith)
+
+pub loop-i-smaller : goal.loop-i-smaller
+loop-i-smaller c = simp length-set (omega arith)
+
+pub returns : goal.returns
+returns c = let p = end_source _ _ _ _ _ _ c.loop-i.invariant c.loop-i-test.false in
+    record { voice = p.0; out = p.1 }
+
+pub loop-i-preserved : goal.loop-i-preserved
+loop-i-preserved c =
+    let l = c.loop-i in
+    rw (c.step-turn.ensures _) at (turn _ _ _ _ _ _ _ l.invariant (omega (arith, l.invariant.long)))

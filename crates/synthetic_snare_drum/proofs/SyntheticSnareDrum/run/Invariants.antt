@@ -1,0 +1,14 @@
+use borrow.Author.Rules.{rules}
+use Prim.Native.Nat.{◌-◌}
+use native.Mathlib.Omega.{arith}
+use lib.ListN.{length, length-set}
+use Rattle.block.specs.Block.{source}
+use Rattle.block.proofs.Blocks.{Going, begin, turn, end_source}
+use Rattle.synthetic_snare_drum.specs.SyntheticSnareDrum.{step}
+use Rattle.synthetic_snare_drum.proofs.SyntheticSnareDrum.run.Given as goal
+
+abbrev pub invariant-loop-i : goal.invariant-loop-i
+invariant-loop-i l = Going (source (step l.settings (length l.initial.out))) l.initial.voice l.initial.out l.initial.out l.voice l.out l.i
+
+abbrev pub decreases-loop-i : goal.decreases-loop-i
+decreases-loop-i l = length l.out - l.i

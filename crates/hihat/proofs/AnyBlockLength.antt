@@ -23,7 +23,7 @@ use Rattle.hihat.proofs.OnePass.{five_passes}
 module _ (v w : Hihat) (kind : VcaType) (k : Knobs) (m n : ℕ) (unsustained : k.sustain ≡ false) (e : v.sample_rate ≡ w.sample_rate) where
   same_step : step (settings v kind k m) ≡ step (settings w kind k n)
   unfolding settings step metallic clocked amplified decay
-  same_step = fun_ext (λ u. fun_ext (λ x. rw (unsustained, e)))
+  same_step = fun_ext (λ u. fun_ext (λ x. rw unsustained))
 
   same-tuned : (u : Hihat) → tuned (settings v kind k m) u ≡ tuned (settings w kind k n) u
   unfolding settings set_coloration set_hpf

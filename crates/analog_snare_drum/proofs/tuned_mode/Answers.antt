@@ -5,4 +5,4 @@ use Rattle.analog_snare_drum.proofs.tuned_mode.Goals as goal
 
 pub returns : goal.returns
 unfolding tuned_mode round of_bits
-returns c = rw (c.set_f_q.ensures, c.minimum_number-f.ensures.0)
+returns c = rw (c.set_f_q.ensures, c.minimum_number-f.ensures.value)

@@ -15,6 +15,7 @@ use Rattle.analog_bass_drum.specs.Excitation.{excitation}
 use Rattle.analog_bass_drum.specs.declared.AnalogBassDrum.{AnalogBassDrum}
 use Rattle.analog_bass_drum.proofs.Rest.{Kept, kept, sample_is}
 use Rattle.analog_bass_drum.proofs.AnalogBassDrum.run.Goals as goal
+use Rattle.analog_bass_drum.proofs.AnalogBassDrum.run.Goals.{then-loop-i-test+else-not-is_at_rest, else-loop-i-test}
 
 pub loop-i-init : goal.loop-i-init
 loop-i-init c = (begin _ _ _ _ (omega arith), c.excitation-e.ensures)
@@ -42,8 +43,10 @@ loop-i-2-init c = (
   (λ v xs g. g),
   (
     refl,
-    λ more. ⊎_elim (λ w. record { current = c.loop-i.invariant.1; rest = w.1.ensures.0 (not-false _ w.2.left) })
-        (λ w. absurd (omega arith)) c.loop-i-test.branch,
+    λ more. elim c.loop-i-test.branch [
+      | then-loop-i-test+else-not-is_at_rest w ↦ record { current = c.loop-i.invariant.1; rest = w.is_at_rest.ensures.0 w.if-not-is_at_rest.false }
+      | else-loop-i-test w ↦ absurd (omega arith)
+    ],
   ),
 )
 

@@ -1,5 +1,5 @@
 -- The question that fails names the part of the excitation that moves; the last one decides where the others hold.
-use borrow.Author.Tests.{not-false}
+use mathlib.Core.Path.{sym, ◌∙◌}
 use mathlib.Core.Bool.{false≢true}
 use Rattle.analog_snare_drum.proofs.AnalogSnareDrum.is_at_rest.Goals as goal
 
@@ -7,9 +7,9 @@ pub returns-then-e-self : goal.returns-then-e-self
 returns-then-e-self c = (λ h. absurd (false≢true h), λ r. absurd (c.if-e-self.true r.remaining))
 
 pub returns-then-not-is_same : goal.returns-then-not-is_same
-returns-then-not-is_same c = (λ h. absurd (false≢true h), λ r. rw (c.is_same.ensures.1 r.pulse) at c.if-not-is_same.true)
+returns-then-not-is_same c = (λ h. absurd (false≢true h), λ r. absurd (false≢true (sym c.if-not-is_same.true ∙ c.is_same.ensures.1 r.pulse)))
 
 pub returns : goal.returns
 returns c =
-    let pulse = c.is_same.ensures.0 (not-false _ c.if-not-is_same.false) in
+    let pulse = c.is_same.ensures.0 c.if-not-is_same.false in
     (λ h. record { remaining = c.if-e-self.false; pulse = pulse; lp = c.is_same-2.ensures.0 h }, λ r. c.is_same-2.ensures.1 r.lp)

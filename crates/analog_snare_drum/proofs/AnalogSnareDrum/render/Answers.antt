@@ -15,4 +15,8 @@ returns-in-Refused c = let known = c.asked-answer.ensures in
 pub returns-in-Accepted : goal.returns-in-Accepted
 returns-in-Accepted c = let known = c.asked-answer.ensures in
     let none = zero_of _ _ known c.in-Accepted.is in
-    (known, rw none (rw (c.tuned.ensures, c.triggered.ensures, c.settings-settings.ensures) at c.run-voice.ensures))
+    record {
+      number = known;
+      voice = rw none (rw (c.tuned.ensures, c.triggered.ensures, c.settings-settings.ensures) at c.run-voice.ensures.voice);
+      out = rw none (rw (c.tuned.ensures, c.triggered.ensures, c.settings-settings.ensures) at c.run-voice.ensures.out);
+    }

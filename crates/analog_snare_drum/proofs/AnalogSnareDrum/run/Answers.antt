@@ -27,13 +27,13 @@ returns c = let p = end_source _ _ _ _ _ _ c.loop-i.invariant.0 c.loop-i-test.fa
 pub loop-i-preserved-then-not-at_rest : goal.loop-i-preserved-then-not-at_rest
 loop-i-preserved-then-not-at_rest c =
     let l = c.loop-i in (
-      rw (c.step-turn.ensures.0, c.step-turn.ensures.1) (turn _ _ _ _ _ _ _ l.invariant.0 (omega (arith, l.invariant.0.long))),
+      rw (c.step-turn.ensures.voice, c.step-turn.ensures.sample) (turn _ _ _ _ _ _ _ l.invariant.0 (omega (arith, l.invariant.0.long))),
       record { current = c.excitation-e-then-not-at_rest.ensures; rest = c.is_at_rest-at_rest-then-not-at_rest.ensures.0 },
     )
 
 pub loop-i-preserved : goal.loop-i-preserved
 loop-i-preserved c =
     let l = c.loop-i in (
-      rw (c.step-turn.ensures.0, c.step-turn.ensures.1) (turn _ _ _ _ _ _ _ l.invariant.0 (omega (arith, l.invariant.0.long))),
-      rw c.step-turn.ensures.0 (kept _ _ _ _ (not-false _ c.if-not-at_rest.false) l.invariant.1),
+      rw (c.step-turn.ensures.voice, c.step-turn.ensures.sample) (turn _ _ _ _ _ _ _ l.invariant.0 (omega (arith, l.invariant.0.long))),
+      rw c.step-turn.ensures.voice (kept _ _ _ _ (c.if-not-at_rest.false) l.invariant.1),
     )

@@ -8,4 +8,4 @@ use Rattle.analog_snare_drum.proofs.AnalogSnareDrum.step.Goals as goal
 pub returns : goal.returns
 unfolding step excitation round of_bits
 returns c = rw (c.process-filtered.ensures, c.not_negative-drawn.ensures, c.get_float-draw.ensures)
-    (rw (c.shell_output-shell.ensures, c.requires) (refl, refl))
+    (rw (c.shell_output-shell.ensures, c.requires) (record { voice = refl; sample = refl }))

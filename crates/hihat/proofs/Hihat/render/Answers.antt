@@ -20,5 +20,8 @@ settings-settings-requires c = short_block _ _ _ (zero_of _ _ c.asked-answer.ens
 pub returns-in-Accepted : goal.returns-in-Accepted
 returns-in-Accepted c = let known = c.asked-answer.ensures in
     let none = zero_of _ _ known c.in-Accepted.is in
-    let left = rw (c.tuned.ensures, c.triggered.ensures, c.settings-settings.ensures) at c.run-voice.ensures in
-    (known, rw (none, five_passes) left)
+    record {
+      number = known;
+      voice = rw (none, five_passes) (rw (c.tuned.ensures, c.triggered.ensures, c.settings-settings.ensures) at c.run-voice.ensures.voice);
+      out = rw (none, five_passes) (rw (c.tuned.ensures, c.triggered.ensures, c.settings-settings.ensures) at c.run-voice.ensures.out);
+    }

@@ -7,6 +7,6 @@ use Rattle.hihat.proofs.Knobs.settings.Goals as goal
 pub returns : goal.returns
 unfolding settings round of_bits
 returns c =
-    rw (c.clamp-2.ensures, c.q.ensures, c.clamp.ensures, c.semitones_to_ratio-3.ensures.0)
-    (rw (c.increments.ensures, c.semitones_to_ratio-2.ensures.0)
-    (rw (c.semitones_to_ratio.ensures.0, c.new-gain.ensures)))
+    rw (c.clamp-2.ensures, c.q.ensures, c.clamp.ensures, c.semitones_to_ratio-3.ensures.value)
+    (rw (c.increments.ensures, c.semitones_to_ratio-2.ensures.value)
+    (rw (c.semitones_to_ratio.ensures.value, c.new-gain.ensures)))

@@ -6,5 +6,5 @@ use Rattle.synthetic_snare_drum.proofs.Knobs.settings.Goals as goal
 
 pub returns : goal.returns
 unfolding settings round of_bits
-returns c = rw (c.sqrt-2.ensures, c.sqrt.ensures, c.semitones_to_ratio-2.ensures.0, c.semitones_to_ratio.ensures.0)
+returns c = rw (c.sqrt-2.ensures, c.sqrt.ensures, c.semitones_to_ratio-2.ensures.value, c.semitones_to_ratio.ensures.value)
     (rw (c.new-sustain_gain.ensures, c.clamp-snappy.ensures))

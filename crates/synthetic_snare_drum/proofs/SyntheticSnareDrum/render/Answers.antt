@@ -20,10 +20,17 @@ settings-settings-requires c = short_block _ _ _ (zero_of _ _ c.asked-answer.ens
 pub returns-then-trigger : goal.returns-then-trigger
 returns-then-trigger c = let known = c.asked-answer.ensures in
     let none = zero_of _ _ known c.in-Accepted.is in
-    let left = rw (c.triggered-triggered.ensures, c.tuned-tuned.ensures, c.settings-settings.ensures) at c.run-voice.ensures in
-    (known, rw (none, c.if-trigger.true) left)
+    record {
+      number = known;
+      voice = rw (none, c.if-trigger.true) (rw (c.triggered-triggered.ensures, c.tuned-tuned.ensures, c.settings-settings.ensures) at c.run-voice.ensures.voice);
+      out = rw (none, c.if-trigger.true) (rw (c.triggered-triggered.ensures, c.tuned-tuned.ensures, c.settings-settings.ensures) at c.run-voice.ensures.out);
+    }
 
 pub returns-else-trigger : goal.returns-else-trigger
 returns-else-trigger c = let known = c.asked-answer.ensures in
     let none = zero_of _ _ known c.in-Accepted.is in
-    (known, rw (none, c.if-trigger.false) (rw (c.tuned-tuned.ensures, c.settings-settings.ensures) at c.run-voice-in-Accepted.ensures))
+    record {
+      number = known;
+      voice = rw (none, c.if-trigger.false) (rw (c.tuned-tuned.ensures, c.settings-settings.ensures) at c.run-voice-in-Accepted.ensures.voice);
+      out = rw (none, c.if-trigger.false) (rw (c.tuned-tuned.ensures, c.settings-settings.ensures) at c.run-voice-in-Accepted.ensures.out);
+    }

@@ -12,7 +12,9 @@ pub loop-i-smaller : goal.loop-i-smaller
 loop-i-smaller c = simp length-set (omega arith)
 
 pub returns : goal.returns
-returns c = rw (← c.increments-increment.ensures) (end_source _ _ _ _ _ _ c.loop-i.invariant c.loop-i-test.false)
+returns c =
+    let p = end_source _ _ _ _ _ _ c.loop-i.invariant c.loop-i-test.false in
+    rw (← c.increments-increment.ensures) (record { noise = p.0; out = p.1 })
 
 pub loop-i-preserved : goal.loop-i-preserved
 loop-i-preserved c =

@@ -6,8 +6,7 @@ use Rattle.text.specs.Read.{fields, field_end}
 use Rattle.text.proofs.Lines.{index_of_le}
 use Rattle.text.specs.Cursor.{field_start}
 use Rattle.text.proofs.Fields.{next_starts, field-here, field-last, field_not_last}
-use Rattle.cue_sheet.proofs.field.after_field.Statement.{statement}
-use Rattle.cue_sheet.proofs.field.after_field.Tie as tie
+use Rattle.cue_sheet.proofs.field.after_field.Goals as goal
 
 near : (line : List ℕ) (k : ℕ) → field_start k line ≤ length line + k
 unfolding field_start
@@ -29,18 +28,19 @@ one_more m n = rw (add-one m, add-one n, eqb-suc-suc)
 one_less : (n : ℕ) → n + 1 - 1 ≡ n
 one_less n = omega arith
 
-pub after_field_spec : {M : Type 1} → statement M
-after_field_spec =
-    tie.close
-    (tie.spec (λ c κs. tt) (λ c. let a = c.before.before.args in omega (arith, c.field-end.ensures.1, near a.line.now a.k)) λ c.
-    let a = c.before.before.args in
-    let starts = c.before.before.requires.1 in
-    let end = c.field-end.ensures in
+pub overflow_add-result : goal.overflow_add-result
+overflow_add-result c = omega (arith, c.field_end.ensures.lower_bound.1, near c.args.line.now c.args.k)
+
+pub returns : goal.returns
+returns c =
+    let a = c.args in
+    let starts = c.requires.1 in
+    let end = c.field_end.ensures in
     record {
-      after = omega (arith, end.1);
-      within = omega (arith, end.1.1);
-      near = omega (arith, end.1.1, near a.line.now a.k);
-      next = rw (add-one a.k) (next_starts _ _ starts end.0);
-      here = ap (λ (n : ℕ). take (n - a.at) (drop a.at a.line.now)) (one_less _) ∙ field-here _ _ starts end.0;
-      last = one_more c.field-end.result (length a.line.now) ∙ last _ _ starts end.0 ∙ rw (add-one a.k);
-    })
+      after = omega (arith, end.lower_bound.0);
+      within = omega (arith, end.lower_bound.1);
+      near = omega (arith, end.lower_bound.1, near a.line.now a.k);
+      next = rw (add-one a.k) (next_starts _ _ starts end.value);
+      here = ap (λ (n : ℕ). take (n - a.at) (drop a.at a.line.now)) (one_less _) ∙ field-here _ _ starts end.value;
+      last = one_more c.field_end.result (length a.line.now) ∙ last _ _ starts end.value ∙ rw (add-one a.k);
+    }

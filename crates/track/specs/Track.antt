@@ -1,7 +1,7 @@
 -- One voice of a sheet: the segments into which all cues cut the sheet, the calls that are made of the voice in them, and its track. Definitions only.
 use Rattle.std.specs.Prelude.{ℕ, ◌-◌, ◌≡◌, Bool, true, false, pos, replicate, Float}
 use mathlib.Core.List.{List, [], ◌∷◌, map, flatten}
-use Rattle.std.proofs.Math.Option.{Option, none, some, Option·elim}
+use Rattle.std.proofs.Math.Option.{Option, none, some, Option-elim}
 use Rattle.std.specs.Float.{binary32}
 use Rattle.std.specs.Float.Ieee.{of_int}
 use Rattle.refusal.specs.Refusal.{Call}
@@ -67,7 +67,7 @@ module _ {Voice : Type 0} (p : Player Voice) (length : ℕ) where
 -- no call is refused
 unfoldable pub Accepted : {Voice : Type 0} → List (Segment Voice) → Type 0
 Accepted [] = Unit {0}
-Accepted (g ∷ gs) = Option·elim g.call (Unit {0}) (λ call. call.number ≡ 0) × Accepted gs
+Accepted (g ∷ gs) = Option-elim g.call (Unit {0}) (λ call. call.number ≡ 0) × Accepted gs
 
 -- ---- the track: what the voice gives to each sample of the sheet, nothing where it is not struck
 unfoldable pub given : {Voice : Type 0} → ℕ → Option (Call Voice) → List (Option Float)

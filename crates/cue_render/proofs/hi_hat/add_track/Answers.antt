@@ -1,0 +1,80 @@
+-- From cue to cue of the hi-hat, by the law of a voice's walk.
+use borrow.Author.Rules.{rules}
+use borrow.Rule.Slice.PartMut.{Post-is}
+use native.Mathlib.Omega.{arith}
+use mathlib.Core.Path.{◌≡◌, sym, ◌∙◌}
+use mathlib.Core.Bool.{true}
+use lib.ListN as List
+use lib.ListN.{length-append, length-drop}
+use lib.Ieee.{round, of_bits, mul, to_unsigned}
+use Rattle.filter.specs.Svf as Svf
+use Rattle.hihat.specs.Hihat as Hihat
+use Rattle.cue_sheet.specs.CueLine.{told}
+use Rattle.cue_render.specs.Voices.{hihat}
+use Rattle.cue_render.specs.Run.{is_of, left, from_line}
+use Rattle.cue_render.proofs.Pass.{Fits, Passing, begins, fewer, fits, turn, ends_here}
+use Rattle.cue_render.proofs.Voices.{hihat_lawful}
+use Rattle.cue_render.proofs.hi_hat.add_track.Goals as goal
+
+pub offset_bounds-out-from : goal.offset_bounds-out-from
+offset_bounds-out-from c = let f = fits hihat hihat_lawful _ c.loop-head.invariant.0 (sym c.is_of.ensures ∙ c.loop-head-test.true) _ _ c.next_cue-step.ensures.head c.next_cue-step.ensures.cues c.run_of-run.ensures _ c.loop-head.invariant.1 in search rules
+
+pub slice_bounds-strike-count : goal.slice_bounds-strike-count
+slice_bounds-strike-count c =
+    let f = fits hihat hihat_lawful _ c.loop-head.invariant.0 (sym c.is_of.ensures ∙ c.loop-head-test.true) _ _ c.next_cue-step.ensures.head c.next_cue-step.ensures.cues c.run_of-run.ensures _ c.loop-head.invariant.1 in
+    f.rising
+
+pub slice_bounds-strike-start : goal.slice_bounds-strike-start
+slice_bounds-strike-start c = let f = fits hihat hihat_lawful _ c.loop-head.invariant.0 (sym c.is_of.ensures ∙ c.loop-head-test.true) _ _ c.next_cue-step.ensures.head c.next_cue-step.ensures.cues c.run_of-run.ensures _ c.loop-head.invariant.1 in search rules
+
+pub slice_bounds-strike-end : goal.slice_bounds-strike-end
+slice_bounds-strike-end c = let f = fits hihat hihat_lawful _ c.loop-head.invariant.0 (sym c.is_of.ensures ∙ c.loop-head-test.true) _ _ c.next_cue-step.ensures.head c.next_cue-step.ensures.cues c.run_of-run.ensures _ c.loop-head.invariant.1 in search rules
+
+pub slice_bounds-strike-count-in-loop-head : goal.slice_bounds-strike-count-in-loop-head
+slice_bounds-strike-count-in-loop-head c =
+    let f = fits hihat hihat_lawful _ c.loop-head.invariant.0 (sym c.is_of.ensures ∙ c.loop-head-test.true) _ _ c.next_cue-step.ensures.head c.next_cue-step.ensures.cues c.run_of-run.ensures _ c.loop-head.invariant.1 in
+    f.rising
+
+pub slice_bounds-strike-end-in-loop-head : goal.slice_bounds-strike-end-in-loop-head
+slice_bounds-strike-end-in-loop-head c =
+    let f = fits hihat hihat_lawful _ c.loop-head.invariant.0 (sym c.is_of.ensures ∙ c.loop-head-test.true) _ _ c.next_cue-step.ensures.head c.next_cue-step.ensures.cues c.run_of-run.ensures _ c.loop-head.invariant.1 in
+    f.room
+
+pub slice_bounds-strike-length-in-loop-head : goal.slice_bounds-strike-length-in-loop-head
+slice_bounds-strike-length-in-loop-head c =
+    let f = fits hihat hihat_lawful _ c.loop-head.invariant.0 (sym c.is_of.ensures ∙ c.loop-head-test.true) _ _ c.next_cue-step.ensures.head c.next_cue-step.ensures.cues c.run_of-run.ensures _ c.loop-head.invariant.1 in
+    sym f.block
+
+pub strike-voice-requires : goal.strike-voice-requires
+strike-voice-requires c = let f = fits hihat hihat_lawful _ c.loop-head.invariant.0 (sym c.is_of.ensures ∙ c.loop-head-test.true) _ _ c.next_cue-step.ensures.head c.next_cue-step.ensures.cues c.run_of-run.ensures _ c.loop-head.invariant.1 in f.block ∙ sym f.part
+
+pub shape_of-out : goal.shape_of-out
+shape_of-out c = c.loop-head.invariant.0.room ∙ sym c.requires.room
+
+pub shape_of-scratch : goal.shape_of-scratch
+shape_of-scratch c = c.loop-head.invariant.1 ∙ sym c.requires.enough
+
+pub returns : goal.returns
+returns c = ends_here hihat hihat_lawful _ c.loop-head.invariant.0 (sym c.is_of.ensures ∙ c.loop-head-test.false)
+
+pub loop-head-init : goal.loop-head-init
+unfolding Hihat.ZERO Svf.ZERO round of_bits mul to_unsigned
+loop-head-init c =
+    let pre = c.requires in
+    let cue = rw c.begin.ensures at c.next_cue-first.ensures in
+    rw (c.init.ensures.voice, c.nearest_f32.ensures) (begins hihat hihat_lawful _ _ _ _ pre cue.head cue.cues, pre.enough)
+
+pub loop-head-smaller : goal.loop-head-smaller
+loop-head-smaller c =
+    let cue = c.next_cue-step.ensures in
+    fewer hihat hihat_lawful _ c.loop-head.invariant.0 (sym c.is_of.ensures ∙ c.loop-head-test.true) _ _ cue.head cue.cues c.run_of-run.ensures
+
+pub loop-head-preserved : goal.loop-head-preserved
+loop-head-preserved c =
+    let cue = c.next_cue-step.ensures in
+    let inv = c.loop-head.invariant in
+    let f = fits hihat hihat_lawful _ c.loop-head.invariant.0 (sym c.is_of.ensures ∙ c.loop-head-test.true) _ _ c.next_cue-step.ensures.head c.next_cue-step.ensures.cues c.run_of-run.ensures _ c.loop-head.invariant.1 in (
+      turn hihat hihat_lawful _ inv.0 (sym c.is_of.ensures ∙ c.loop-head-test.true) _ _ cue.head cue.cues c.run_of-run.ensures _ f.block
+          c.strike-voice.ensures.voice c.strike-voice.ensures.out (rw (Post-is _ _ _ f.rising)),
+      simp (length-append, length-drop) (omega (arith, c.strike-voice.auto.scratch, f.block, f.room, inv.1)),
+    )

@@ -1,0 +1,6 @@
+-- A cue by its letter.
+use borrow.Author.Rules.{rules}
+use Rattle.cue_render.proofs.run.is_of.Goals as goal
+
+pub returns-in-Cue : goal.returns-in-Cue
+returns-in-Cue c = rw (c.letter_of.ensures, c.in-Cue.is)

@@ -1,0 +1,7 @@
+-- The header and the rows are one text.
+use Rattle.text.proofs.Written.{then}
+use borrow.Author.Rules.{rules}
+use Rattle.listing.proofs.put_listing.Goals as goal
+
+pub returns : goal.returns
+returns c = search then

@@ -1,0 +1,7 @@
+-- The pattern and the byte are one text.
+use Rattle.text.proofs.Written.{then}
+use borrow.Author.Rules.{rules}
+use Rattle.listing.proofs.put_pattern.Goals as goal
+
+pub returns : goal.returns
+returns c = then (rw c.to_bits.ensures at c.pattern-end.ensures) c.byte.ensures

@@ -1,0 +1,13 @@
+use Prim.Native.Nat.{◌+◌, ◌-◌}
+use native.Mathlib.Nat.{sub-zero}
+use Rattle.text.proofs.Written.{Writing, begin}
+use Rattle.listing.specs.Draws.{rows}
+use Rattle.listing.proofs.Rows.{draw_turn, draws_end}
+use borrow.Author.Rules.{rules}
+use Rattle.listing.proofs.put_rows.Given as goal
+
+abbrev pub invariant-loop-drawn : goal.invariant-loop-drawn
+invariant-loop-drawn l = Writing l.initial.out l.at (rows 1 l.state l.count) (rows (l.drawn + 1) l.word (l.count - l.drawn)) l.end l.out
+
+abbrev pub decreases-loop-drawn : goal.decreases-loop-drawn
+decreases-loop-drawn l = l.count - l.drawn

@@ -2,12 +2,13 @@
 // a longer input gets the answer of its first 4,096.
 #![tactic(auto)]
 
-use libc::{STDIN_FILENO, STDOUT_FILENO};
+use std::io;
+use std::io::Write;
 
-fn main() {
+fn main(rt: HostRuntime) -> io::Result<()> {
     let mut sheet = [0u8; 4096];
-    let n = io::read_full(STDIN_FILENO, &mut sheet);
+    let n = input::read_full(&mut rt.stdin(), &mut sheet)?;
     let mut output = [0u8; 245772];
     let length = listing::cues(&sheet[..n], &mut output);
-    io::write_all(STDOUT_FILENO, &output[..length]);
+    rt.stdout().write_all(&output[..length])
 }

@@ -3,12 +3,13 @@
 // `draw_request`).
 #![tactic(auto)]
 
-use libc::{STDIN_FILENO, STDOUT_FILENO};
+use std::io;
+use std::io::Write;
 
-fn main() {
-    let mut input = [0u8; 17];
-    let n = io::read_full(STDIN_FILENO, &mut input);
+fn main(rt: HostRuntime) -> io::Result<()> {
+    let mut request = [0u8; 17];
+    let n = input::read_full(&mut rt.stdin(), &mut request)?;
     let mut output = [0u8; 25015];
-    let length = listing::draws(&input[..n], &mut output);
-    io::write_all(STDOUT_FILENO, &output[..length]);
+    let length = listing::draws(&request[..n], &mut output);
+    rt.stdout().write_all(&output[..length])
 }

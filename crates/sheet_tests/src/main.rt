@@ -1,31 +1,26 @@
 // Prints the name of each sheet that the arguments name, and what `cues` prints for it.
 #![tactic(auto)]
 
-use libc::STDOUT_FILENO;
+use std::io::Write;
+use std::{env, fs, io};
 
-fn print_sheet(name: &[u8]) {
-    io::write_all(STDOUT_FILENO, name);
-    io::write_all(STDOUT_FILENO, b"\n");
-    let file = os::open_read(name);
-    if file < 0 {
-        io::write_all(STDOUT_FILENO, b"no such sheet\n");
-        return;
-    }
+fn print_sheet(rt: &HostRuntime, name: &str) -> io::Result<()> {
+    let mut out = rt.stdout();
+    out.write_all(name.as_bytes())?;
+    out.write_all(b"\n")?;
+    let Ok(mut file) = fs::open(rt, name) else {
+        return out.write_all(b"no such sheet\n");
+    };
     let mut sheet = [0u8; 4096];
-    let n = io::read_full(file, &mut sheet);
-    libc::close(file);
+    let n = input::read_full(&mut file, &mut sheet)?;
     let mut output = [0u8; 245772];
     let length = listing::cues(&sheet[..n], &mut output);
-    io::write_all(STDOUT_FILENO, &output[..length]);
+    out.write_all(&output[..length])
 }
 
-fn main() {
-    let count = os::arg_count();
-    let mut i: usize = 1;
-    while i < count {
-        let mut name = [0u8; 64];
-        let n = os::arg(i, &mut name);
-        print_sheet(&name[..n]);
-        i += 1;
+fn main(rt: HostRuntime) -> io::Result<()> {
+    for name in env::args(&rt)?.skip(1) {
+        print_sheet(&rt, name.as_str())?;
     }
+    Ok(())
 }

@@ -4,18 +4,15 @@
 use analog_bass_drum::AnalogBassDrum;
 use cue_sheet::Judgment;
 use hihat::{Hihat, VcaType};
-use libc::STDOUT_FILENO;
 use refusal::Answer;
+use std::io;
 
-fn print_number(example: &[u8], number: u32) {
-    io::write_all(STDOUT_FILENO, example);
-    io::write_all(STDOUT_FILENO, b": ");
-    io::print_decimal(STDOUT_FILENO, number as u64);
-    io::write_all(STDOUT_FILENO, b"\n");
+fn print_number(rt: &HostRuntime, example: &str, number: u32) -> io::Result<()> {
+    println!(rt; "{example}: {number}")
 }
 
-fn print(example: &[u8], answer: Answer) {
-    print_number(example, answer.number());
+fn print(rt: &HostRuntime, example: &str, answer: Answer) -> io::Result<()> {
+    print_number(rt, example, answer.number())
 }
 
 // A bass struck at f0, over a block.
@@ -55,35 +52,37 @@ fn struck_unstarted(f0: f32, out: &mut [f32]) -> Answer {
 }
 
 // A sheet of two samples into a lent buffer. Where it is refused, its line too.
-fn print_rendered(example: &[u8], out: &mut [f32]) {
+fn print_rendered(rt: &HostRuntime, example: &str, out: &mut [f32]) -> io::Result<()> {
     match cue_render::render(b"48000,2\n", out) {
-        Judgment::Accepted { head: _, cues: _ } => print_number(example, 0),
+        Judgment::Accepted { head: _, cues: _ } => print_number(rt, example, 0),
         Judgment::Refused { refusal, line } => {
-            print_number(example, refusal.number());
-            print_number(b"its line", line);
+            print_number(rt, example, refusal.number())?;
+            print_number(rt, "its line", line)
         }
     }
 }
 
-fn main() {
-    print(b"rate 16000.0", started(16000.0));
-    print(b"rate 15999.0", started(15999.0));
+fn main(rt: HostRuntime) -> io::Result<()> {
+    print(&rt, "rate 16000.0", started(16000.0))?;
+    print(&rt, "rate 15999.0", started(15999.0))?;
 
     let mut samples = [0.0f32; 16385];
-    print(b"16385 samples", struck(0.01, &mut samples));
+    print(&rt, "16385 samples", struck(0.01, &mut samples))?;
     let mut most = [0.0f32; 16384];
-    print(b"16384 samples", struck(0.01, &mut most));
+    print(&rt, "16384 samples", struck(0.01, &mut most))?;
 
     let mut block = [0.0f32; 64];
-    print(b"f0 0.5", struck(0.5, &mut block));
-    print(b"f0 0.75", struck(0.75, &mut block));
+    print(&rt, "f0 0.5", struck(0.5, &mut block))?;
+    print(&rt, "f0 0.75", struck(0.75, &mut block))?;
     print(
-        b"a hi-hat of rate 0.0, f0 not-a-number",
+        &rt,
+        "a hi-hat of rate 0.0, f0 not-a-number",
         struck_unstarted(0.0 / 0.0, &mut block),
-    );
+    )?;
 
     let mut one = [0.0f32; 1];
-    print_rendered(b"a sheet of 2 samples into 1 place", &mut one);
+    print_rendered(&rt, "a sheet of 2 samples into 1 place", &mut one)?;
     let mut two = [0.0f32; 2];
-    print_rendered(b"a sheet of 2 samples into 2 places", &mut two);
+    print_rendered(&rt, "a sheet of 2 samples into 2 places", &mut two)?;
+    Ok(())
 }

@@ -8,7 +8,6 @@ use Rattle.text.specs.Read.{ended, body, field, has_fields, decimal, pattern}
 use Rattle.cue_sheet.specs.declared.line.Cue.{Cue}
 use Rattle.cue_sheet.specs.declared.line.Cue.TheVariants.{Bass, Snare, SyntheticSnare, Hihat}
 use Rattle.cue_sheet.specs.declared.line.Line.{Line}
-use Rattle.cue_sheet.specs.declared.line.Line.TheVariants as Line
 use Rattle.cue_sheet.specs.declared.line.Fields.{Fields}
 use Rattle.cue_sheet.specs.Answer.{number, Told, says, refused, ask, valid, value}
 

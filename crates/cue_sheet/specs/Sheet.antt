@@ -6,7 +6,6 @@ use Rattle.cue_sheet.specs.Answer.{number, Told, says, refused, ask, valid, valu
 use Rattle.cue_sheet.specs.CueLine.{Strike, read_cue}
 use Rattle.cue_sheet.specs.declared.Head.{Head}
 use Rattle.cue_sheet.specs.declared.FirstLine.{FirstLine}
-use Rattle.cue_sheet.specs.declared.FirstLine.TheVariants as FirstLine
 use Rattle.cue_sheet.specs.declared.Walk.{Walk}
 use Rattle.cue_sheet.specs.declared.Judgment.{Judgment}
 use Rattle.cue_sheet.specs.declared.Judgment.TheVariants.{Accepted, Refused}

@@ -1,7 +1,6 @@
 -- Each arm is one of the three answers to a sheet and a buffer, with what it leaves in the buffer.
 use mathlib.Core.Path.{refl, sym, ap, ◌∙◌}
 use lib.Seq.{length-take-le}
-use borrow.Author.Rules.{rules}
 use borrow.Author.Tests.{le-leb, lt-leb}
 use Rattle.cue_sheet.specs.Sheet as Sheet
 use Rattle.cue_sheet.proofs.FirstLines.{accepted_head}
@@ -26,10 +25,10 @@ slice_bounds-render_voices-end-in-Accepted c = sym (length-take-le _ _ c.if-out-
 pub returns-in-Refused : goal.returns-in-Refused
 unfolding answer in_buffer render filled
 returns-in-Refused c = record {
-      answer = rw (sym c.judge.ensures ∙ ap Sheet.answer c.in-Refused.is) refl;
-      out = rw (sym c.judge.ensures ∙ ap Sheet.answer c.in-Refused.is) refl;
-      calls = never_refused _;
-    }
+  answer = rw (sym c.judge.ensures ∙ ap Sheet.answer c.in-Refused.is) refl;
+  out = rw (sym c.judge.ensures ∙ ap Sheet.answer c.in-Refused.is) refl;
+  calls = never_refused _;
+}
 
 pub returns-else-out-length : goal.returns-else-out-length
 unfolding answer in_buffer render filled

@@ -1,7 +1,5 @@
 -- The walk over the lines: the judgment is that of the lines from the walk's place on.
-use Rattle.std.proofs.Common.{◌≡◌, ◌-◌, drop, sym, ◌∙◌, rules}
-use lib.ListN as List
-use Rattle.text.specs.Read.{lines}
+use Rattle.std.proofs.Common.{sym, ◌∙◌}
 use Rattle.text.proofs.Lines.{lines_over}
 use Rattle.cue_sheet.specs.Sheet.{on_told, judge_from, judge}
 use Rattle.cue_sheet.proofs.Walks.{line_part, rest, next_less, split}

@@ -1,9 +1,7 @@
-use Rattle.std.proofs.Common.{◌≡◌, ◌-◌, drop, sym, ◌∙◌, rules}
+use Rattle.std.proofs.Common.{◌≡◌, ◌-◌, drop}
 use lib.ListN as List
 use Rattle.text.specs.Read.{lines}
-use Rattle.text.proofs.Lines.{lines_over}
-use Rattle.cue_sheet.specs.Sheet.{on_told, judge_from, judge}
-use Rattle.cue_sheet.proofs.Walks.{line_part, rest, next_less, split}
+use Rattle.cue_sheet.specs.Sheet.{judge_from, judge}
 use Rattle.cue_sheet.proofs.judge.Given as goal
 
 abbrev pub invariant-loop-walk : goal.invariant-loop-walk

@@ -1,5 +1,5 @@
 -- Each call is a part of the definition, whose test decides.
-use Rattle.std.proofs.Common.{refl, arith, rules}
+use Rattle.std.proofs.Common.{refl, arith}
 use Rattle.text.specs.Cursor.{field_start}
 use Rattle.cue_sheet.specs.Sheet.{read_first_line}
 use Rattle.cue_sheet.proofs.read_first_line.Goals as goal

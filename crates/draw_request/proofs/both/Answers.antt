@@ -1,6 +1,5 @@
 -- Each arm is a line of the definition.
 use Rattle.draw_request.specs.Requests.{both}
-use borrow.Author.Rules.{rules}
 use Rattle.draw_request.proofs.both.Goals as goal
 
 pub returns-in_default : goal.returns-in_default

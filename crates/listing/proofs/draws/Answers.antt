@@ -3,7 +3,6 @@ use native.Mathlib.Omega.{arith}
 use Rattle.text.proofs.Written.{then}
 use Rattle.listing.specs.Draws.{answer}
 use Rattle.listing.proofs.Lengths.{listed}
-use borrow.Author.Rules.{rules}
 use Rattle.listing.proofs.draws.Goals as goal
 
 pub returns-in-Draws : goal.returns-in-Draws

@@ -1,6 +1,5 @@
 -- The header and the rows are one text.
 use Rattle.text.proofs.Written.{then}
-use borrow.Author.Rules.{rules}
 use Rattle.listing.proofs.put_listing.Goals as goal
 
 pub returns : goal.returns

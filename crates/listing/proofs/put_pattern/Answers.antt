@@ -1,6 +1,5 @@
 -- The pattern and the byte are one text.
 use Rattle.text.proofs.Written.{then}
-use borrow.Author.Rules.{rules}
 use Rattle.listing.proofs.put_pattern.Goals as goal
 
 pub returns : goal.returns

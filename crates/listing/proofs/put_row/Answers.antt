@@ -1,7 +1,6 @@
 -- The number, the word and the pattern are one row.
 use Rattle.text.proofs.Written.{then-both}
 use Rattle.listing.specs.Draws.{row}
-use borrow.Author.Rules.{rules}
 use Rattle.listing.proofs.put_row.Goals as goal
 
 pub returns : goal.returns

@@ -1,10 +1,7 @@
 -- What is left to write are the rows that are not yet drawn.
-use Prim.Native.Nat.{◌+◌, ◌-◌}
 use native.Mathlib.Nat.{sub-zero}
-use Rattle.text.proofs.Written.{Writing, begin}
-use Rattle.listing.specs.Draws.{rows}
+use Rattle.text.proofs.Written.{begin}
 use Rattle.listing.proofs.Rows.{draw_turn, draws_end}
-use borrow.Author.Rules.{rules}
 use Rattle.listing.proofs.put_rows.Goals as goal
 
 pub loop-drawn-init : goal.loop-drawn-init

@@ -1,9 +1,6 @@
 use Prim.Native.Nat.{◌+◌, ◌-◌}
-use native.Mathlib.Nat.{sub-zero}
-use Rattle.text.proofs.Written.{Writing, begin}
+use Rattle.text.proofs.Written.{Writing}
 use Rattle.listing.specs.Draws.{rows}
-use Rattle.listing.proofs.Rows.{draw_turn, draws_end}
-use borrow.Author.Rules.{rules}
 use Rattle.listing.proofs.put_rows.Given as goal
 
 abbrev pub invariant-loop-drawn : goal.invariant-loop-drawn

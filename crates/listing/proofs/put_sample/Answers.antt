@@ -1,7 +1,6 @@
 -- The index and the pattern are one row.
 use Rattle.text.proofs.Written.{then-both}
 use Rattle.listing.specs.Cues.{row}
-use borrow.Author.Rules.{rules}
 use Rattle.listing.proofs.put_sample.Goals as goal
 
 pub returns : goal.returns

@@ -1,10 +1,6 @@
 -- What is left to write are the rows of the samples from i on.
-use Prim.Native.Nat.{◌-◌}
-use lib.ListN.{length, drop}
-use Rattle.text.proofs.Written.{Writing, begin}
-use Rattle.listing.specs.Cues.{rows}
+use Rattle.text.proofs.Written.{begin}
 use Rattle.listing.proofs.Rows.{sample-turn, samples_end}
-use borrow.Author.Rules.{rules}
 use Rattle.listing.proofs.put_samples.Goals as goal
 
 pub loop-i-init : goal.loop-i-init

@@ -1,9 +1,7 @@
 use Prim.Native.Nat.{◌-◌}
 use lib.ListN.{length, drop}
-use Rattle.text.proofs.Written.{Writing, begin}
+use Rattle.text.proofs.Written.{Writing}
 use Rattle.listing.specs.Cues.{rows}
-use Rattle.listing.proofs.Rows.{sample-turn, samples_end}
-use borrow.Author.Rules.{rules}
 use Rattle.listing.proofs.put_samples.Given as goal
 
 abbrev pub invariant-loop-i : goal.invariant-loop-i

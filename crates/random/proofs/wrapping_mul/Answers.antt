@@ -1,5 +1,5 @@
 -- The low 32 bits of a product, put together from three products of 16-bit halves: for all numbers, so for every two of 32 bits.
-use Rattle.std.proofs.Common.{◌≡◌, ℕ, ◌+◌, ◌*◌, ◌/◌, ◌%◌, ◌^◌, div-add-mod', arith, rules}
+use Rattle.std.proofs.Common.{◌≡◌, ℕ, ◌+◌, ◌*◌, ◌/◌, ◌%◌, ◌^◌, div-add-mod', arith}
 use Rattle.random.proofs.wrapping_mul.Goals as goal
 
 -- two numbers in halves, multiplied out

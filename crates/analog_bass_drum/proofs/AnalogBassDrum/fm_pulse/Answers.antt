@@ -1,6 +1,5 @@
 -- The countdown's end, and one less that is or is not its end.
 use borrow.Author.Tests.{eq-eqb, ne_eqb}
-use borrow.Author.Rules.{rules}
 use lib.Ieee.{round, of_bits}
 use Rattle.analog_bass_drum.specs.Excitation.{fm_pulse}
 use Rattle.analog_bass_drum.proofs.AnalogBassDrum.fm_pulse.Goals as goal

@@ -1,5 +1,4 @@
 -- The answer decides what the call leaves.
-use borrow.Author.Rules.{rules}
 use Rattle.refusal.proofs.ByNumber.{arm-accepted, arm-refused}
 use Rattle.analog_bass_drum.proofs.AnalogBassDrum.init.Goals as goal
 

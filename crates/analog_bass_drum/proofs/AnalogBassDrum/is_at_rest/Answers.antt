@@ -16,14 +16,13 @@ pub returns-then-not-is_same-2 : goal.returns-then-not-is_same-2
 returns-then-not-is_same-2 c = (λ h. absurd (false≢true h), λ r. absurd (false≢true (sym c.if-not-is_same-2.true ∙ c.is_same-2.ensures.1 r.lp)))
 
 pub returns : goal.returns
-returns c =
-    (
-      λ h. record {
-        remaining = c.if-e-self.false;
-        fm_remaining = c.if-e-self-2.false;
-        pulse = c.is_same.ensures.0 c.if-not-is_same.false;
-        lp = c.is_same-2.ensures.0 c.if-not-is_same-2.false;
-        fm_lp = c.is_same-3.ensures.0 h;
-      },
-      λ r. c.is_same-3.ensures.1 r.fm_lp,
-    )
+returns c = (
+  λ h. record {
+    remaining = c.if-e-self.false;
+    fm_remaining = c.if-e-self-2.false;
+    pulse = c.is_same.ensures.0 c.if-not-is_same.false;
+    lp = c.is_same-2.ensures.0 c.if-not-is_same-2.false;
+    fm_lp = c.is_same-3.ensures.0 h;
+  },
+  λ r. c.is_same-3.ensures.1 r.fm_lp,
+)

@@ -1,19 +1,9 @@
 -- The loop's law of `block`, for either loop; an excitation that is kept at rest stays right.
-use borrow.Author.Rules.{rules}
-use borrow.Author.Tests.{not-false}
-use Prim.Native.Nat.{◌-◌, ◌<◌}
 use native.Mathlib.Omega.{arith}
-use mathlib.Core.Path.{◌≡◌, refl}
-use mathlib.Core.Logic.{⊎_elim}
-use mathlib.Core.List.{List}
-use lib.ListN.{length, length-set}
-use lib.Ieee.{Float}
-use Rattle.block.specs.Block.{source}
-use Rattle.block.proofs.Blocks.{Going, begin, turn, end_source}
-use Rattle.analog_bass_drum.specs.AnalogBassDrum.{step}
-use Rattle.analog_bass_drum.specs.Excitation.{excitation}
-use Rattle.analog_bass_drum.specs.declared.AnalogBassDrum.{AnalogBassDrum}
-use Rattle.analog_bass_drum.proofs.Rest.{Kept, kept, sample_is}
+use mathlib.Core.Path.{refl}
+use lib.ListN.{length-set}
+use Rattle.block.proofs.Blocks.{begin, turn, end_source}
+use Rattle.analog_bass_drum.proofs.Rest.{kept, sample_is}
 use Rattle.analog_bass_drum.proofs.AnalogBassDrum.run.Goals as goal
 use Rattle.analog_bass_drum.proofs.AnalogBassDrum.run.Goals.{then-loop-i-test+else-not-is_at_rest, else-loop-i-test}
 

@@ -1,18 +1,14 @@
-use borrow.Author.Rules.{rules}
-use borrow.Author.Tests.{not-false}
 use Prim.Native.Nat.{◌-◌, ◌<◌}
-use native.Mathlib.Omega.{arith}
-use mathlib.Core.Path.{◌≡◌, refl}
-use mathlib.Core.Logic.{⊎_elim}
+use mathlib.Core.Path.{◌≡◌}
 use mathlib.Core.List.{List}
-use lib.ListN.{length, length-set}
+use lib.ListN.{length}
 use lib.Ieee.{Float}
 use Rattle.block.specs.Block.{source}
-use Rattle.block.proofs.Blocks.{Going, begin, turn, end_source}
+use Rattle.block.proofs.Blocks.{Going}
 use Rattle.analog_bass_drum.specs.AnalogBassDrum.{step}
 use Rattle.analog_bass_drum.specs.Excitation.{excitation}
 use Rattle.analog_bass_drum.specs.declared.AnalogBassDrum.{AnalogBassDrum}
-use Rattle.analog_bass_drum.proofs.Rest.{Kept, kept, sample_is}
+use Rattle.analog_bass_drum.proofs.Rest.{Kept}
 use Rattle.analog_bass_drum.proofs.AnalogBassDrum.run.Given as goal
 
 -- until the pulses are at rest

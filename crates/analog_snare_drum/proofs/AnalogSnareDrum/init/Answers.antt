@@ -1,5 +1,4 @@
 -- The answer decides what the call leaves.
-use borrow.Author.Rules.{rules}
 use Rattle.refusal.proofs.ByNumber.{arm-accepted, arm-refused}
 use Rattle.analog_snare_drum.proofs.AnalogSnareDrum.init.Goals as goal
 

@@ -1,5 +1,4 @@
 -- The calls' values in the definition's record, the last first.
-use borrow.Author.Rules.{rules}
 use lib.Ieee.{round, of_bits}
 use Rattle.analog_snare_drum.specs.AnalogSnareDrum.{initialized}
 use Rattle.analog_snare_drum.proofs.AnalogSnareDrum.initialized.Goals as goal

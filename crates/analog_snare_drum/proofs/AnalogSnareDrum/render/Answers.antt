@@ -1,5 +1,4 @@
 -- The number of the answer decides what the call leaves.
-use borrow.Author.Rules.{rules}
 use mathlib.Core.Path.{refl}
 use Rattle.refusal.proofs.ByNumber.{zero_of, suc_of}
 use Rattle.analog_snare_drum.proofs.AnalogSnareDrum.render.Goals as goal

@@ -1,13 +1,8 @@
 -- The loop's law of `block`; an excitation that is kept at rest stays right.
-use borrow.Author.Rules.{rules}
-use borrow.Author.Tests.{not-false}
-use Prim.Native.Nat.{◌-◌}
 use native.Mathlib.Omega.{arith}
-use lib.ListN.{length, length-set}
-use Rattle.block.specs.Block.{source}
-use Rattle.block.proofs.Blocks.{Going, begin, turn, end_source}
-use Rattle.analog_snare_drum.specs.AnalogSnareDrum.{step}
-use Rattle.analog_snare_drum.proofs.Rest.{Kept, kept}
+use lib.ListN.{length-set}
+use Rattle.block.proofs.Blocks.{begin, turn, end_source}
+use Rattle.analog_snare_drum.proofs.Rest.{kept}
 use Rattle.analog_snare_drum.proofs.AnalogSnareDrum.run.Goals as goal
 
 pub loop-i-init : goal.loop-i-init

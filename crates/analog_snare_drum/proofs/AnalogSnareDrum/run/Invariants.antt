@@ -1,12 +1,9 @@
-use borrow.Author.Rules.{rules}
-use borrow.Author.Tests.{not-false}
 use Prim.Native.Nat.{◌-◌}
-use native.Mathlib.Omega.{arith}
-use lib.ListN.{length, length-set}
+use lib.ListN.{length}
 use Rattle.block.specs.Block.{source}
-use Rattle.block.proofs.Blocks.{Going, begin, turn, end_source}
+use Rattle.block.proofs.Blocks.{Going}
 use Rattle.analog_snare_drum.specs.AnalogSnareDrum.{step}
-use Rattle.analog_snare_drum.proofs.Rest.{Kept, kept}
+use Rattle.analog_snare_drum.proofs.Rest.{Kept}
 use Rattle.analog_snare_drum.proofs.AnalogSnareDrum.run.Given as goal
 
 abbrev pub invariant-loop-i : goal.invariant-loop-i

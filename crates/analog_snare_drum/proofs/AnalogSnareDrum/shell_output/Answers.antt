@@ -1,5 +1,4 @@
 -- The modes one after the other, the last call first.
-use borrow.Author.Rules.{rules}
 use lib.Ieee.{round, of_bits}
 use Rattle.analog_snare_drum.specs.AnalogSnareDrum.{shell_output}
 use Rattle.analog_snare_drum.proofs.AnalogSnareDrum.shell_output.Goals as goal

@@ -1,5 +1,4 @@
 -- A mode at each place, the last call first; the frequencies are those of the definition.
-use borrow.Author.Rules.{rules}
 use lib.Ieee.{round, of_bits}
 use Rattle.analog_snare_drum.specs.AnalogSnareDrum.{tuned, MODE_FREQUENCIES}
 use Rattle.analog_snare_drum.proofs.AnalogSnareDrum.tuned.Goals as goal

@@ -1,5 +1,4 @@
 -- The equations of the two calls, joined.
-use borrow.Author.Rules.{rules}
 use Rattle.console.proofs.filters.bechullpi_filter_svf_process_buffer.Goals as goal
 
 pub returns-clause-filter : goal.returns-clause-filter

@@ -1,5 +1,4 @@
 -- The answer is taken apart, and put into one record: case by case what `sheet` says.
-use borrow.Author.Rules.{rules}
 use mathlib.Core.Path.{ap, sym, ◌∙◌}
 use Rattle.cue_sheet.specs.Sheet.{answer}
 use Rattle.console.specs.Sheet.{sheet}

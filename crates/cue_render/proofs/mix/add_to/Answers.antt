@@ -1,12 +1,6 @@
 -- A loop that fills the buffer towards the sums.
-use Prim.Native.Nat.{◌-◌}
-use mathlib.Core.List.{map}
-use mathlib.Core.Option.{some}
-use lib.ListN.{length}
-use Rattle.track.specs.Mix.{mixed}
 use Rattle.track.proofs.Mixed.{mixed-length}
-use Rattle.cue_render.proofs.Fill.{Filling, fill_begin, fill_turn, fill_end, mixed_at}
-use borrow.Author.Rules.{rules}
+use Rattle.cue_render.proofs.Fill.{fill_begin, fill_turn, fill_end, mixed_at}
 use Rattle.cue_render.proofs.mix.add_to.Goals as goal
 
 pub loop-i-init : goal.loop-i-init

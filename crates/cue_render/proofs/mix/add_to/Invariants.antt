@@ -3,9 +3,7 @@ use mathlib.Core.List.{map}
 use mathlib.Core.Option.{some}
 use lib.ListN.{length}
 use Rattle.track.specs.Mix.{mixed}
-use Rattle.track.proofs.Mixed.{mixed-length}
-use Rattle.cue_render.proofs.Fill.{Filling, fill_begin, fill_turn, fill_end, mixed_at}
-use borrow.Author.Rules.{rules}
+use Rattle.cue_render.proofs.Fill.{Filling}
 use Rattle.cue_render.proofs.mix.add_to.Given as goal
 
 abbrev pub invariant-loop-i : goal.invariant-loop-i

@@ -1,10 +1,6 @@
 -- A loop that fills the buffer towards silence.
-use Prim.Native.Nat.{◌-◌}
-use lib.ListN.{length}
-use Rattle.track.specs.Mix.{silence}
 use Rattle.track.proofs.Mixed.{silence-length}
-use Rattle.cue_render.proofs.Fill.{Filling, fill_begin, fill_turn, fill_end, silence_at}
-use borrow.Author.Rules.{rules}
+use Rattle.cue_render.proofs.Fill.{fill_begin, fill_turn, fill_end, silence_at}
 use Rattle.cue_render.proofs.mix.clear.Goals as goal
 
 pub loop-i-init : goal.loop-i-init

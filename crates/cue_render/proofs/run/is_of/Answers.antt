@@ -1,5 +1,4 @@
 -- A cue by its letter.
-use borrow.Author.Rules.{rules}
 use Rattle.cue_render.proofs.run.is_of.Goals as goal
 
 pub returns-in-Cue : goal.returns-in-Cue

@@ -1,9 +1,6 @@
 -- The walk goes on to the line that is a cue of the voice, or to the sheet's end.
-use Prim.Native.Nat.{◌-◌}
-use mathlib.Core.Path.{◌≡◌, refl, sym, ◌∙◌}
-use lib.ListN as List
+use mathlib.Core.Path.{refl, sym, ◌∙◌}
 use Rattle.cue_sheet.proofs.Walks.{next_head, next_less}
-use Rattle.cue_render.specs.Run.{left, of_voice}
 use Rattle.cue_render.proofs.Runs.{found, passed_by, none_left}
 use Rattle.cue_render.proofs.run.next_cue.Goals as goal
 

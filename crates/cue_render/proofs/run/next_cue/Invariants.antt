@@ -1,9 +1,7 @@
 use Prim.Native.Nat.{◌-◌}
-use mathlib.Core.Path.{◌≡◌, refl, sym, ◌∙◌}
+use mathlib.Core.Path.{◌≡◌}
 use lib.ListN as List
-use Rattle.cue_sheet.proofs.Walks.{next_head, next_less}
 use Rattle.cue_render.specs.Run.{left, of_voice}
-use Rattle.cue_render.proofs.Runs.{found, passed_by, none_left}
 use Rattle.cue_render.proofs.run.next_cue.Given as goal
 
 abbrev pub invariant-loop-walk : goal.invariant-loop-walk

@@ -1,5 +1,4 @@
 -- Up to the next cue, or to the sheet's end.
-use borrow.Author.Rules.{rules}
 use Rattle.cue_render.specs.Run.{run_of}
 use Rattle.cue_render.proofs.run.run_of.Goals as goal
 

@@ -1,18 +1,10 @@
-use borrow.Author.Rules.{rules}
-use borrow.Rule.Slice.PartMut.{Post-is}
-use native.Mathlib.Omega.{arith}
-use mathlib.Core.Path.{◌≡◌, sym, ◌∙◌}
-use mathlib.Core.Bool.{true}
+use mathlib.Core.Path.{◌≡◌}
 use lib.ListN as List
 use lib.ListN.{length-append, length-drop}
-use lib.Ieee.{round, of_bits, mul, to_unsigned}
-use Rattle.filter.specs.Svf as Svf
-use Rattle.filter.specs.OnePole as OnePole
-use Rattle.synthetic_snare_drum.specs.SyntheticSnareDrum as SyntheticSnareDrum
 use Rattle.cue_sheet.specs.CueLine.{told}
 use Rattle.cue_render.specs.Voices.{synthetic_snare}
-use Rattle.cue_render.specs.Run.{is_of, left, from_line}
-use Rattle.cue_render.proofs.Pass.{Fits, Passing, begins, fewer, fits, turn, ends_here}
+use Rattle.cue_render.specs.Run.{left, from_line}
+use Rattle.cue_render.proofs.Pass.{Passing}
 use Rattle.cue_render.proofs.Voices.{synthetic_snare_lawful}
 use Rattle.cue_render.proofs.synthetic_snare.add_track.Given as goal
 

@@ -1,5 +1,5 @@
 -- The line at the walk's place, by what it says; a cue leaves room to count on.
-use Rattle.std.proofs.Common.{sym, arith, rules}
+use Rattle.std.proofs.Common.{sym, arith}
 use Rattle.cue_sheet.specs.Sheet.{next, on_told}
 use Rattle.cue_sheet.proofs.Questions.{cue-passed}
 use Rattle.cue_sheet.proofs.Walks.{line_part}

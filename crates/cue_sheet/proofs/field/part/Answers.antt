@@ -1,5 +1,5 @@
 -- The part as it is cut; past the end there is nothing to cut.
-use Rattle.std.proofs.Common.{arith, drop_of_length-le, rules}
+use Rattle.std.proofs.Common.{arith, drop_of_length-le}
 use lib.Seq.{take-nil}
 use Rattle.cue_sheet.proofs.field.part.Goals as goal
 

@@ -1,5 +1,4 @@
 -- A question that is passed, and one that is not.
-use Rattle.std.proofs.Common.{rules}
 use Rattle.cue_sheet.proofs.line.ask.Goals as goal
 
 pub returns-else-passes : goal.returns-else-passes

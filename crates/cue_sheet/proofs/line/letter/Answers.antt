@@ -1,5 +1,5 @@
 -- The definition's test of the length.
-use Rattle.std.proofs.Common.{rules, eq-eqb, ne_eqb}
+use Rattle.std.proofs.Common.{eq-eqb, ne_eqb}
 use Rattle.cue_sheet.proofs.line.letter.Goals as goal
 
 pub returns-then-field-eq1 : goal.returns-then-field-eq1

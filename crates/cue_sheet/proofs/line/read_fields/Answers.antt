@@ -1,5 +1,5 @@
 -- Each call is a part of the definition; the fields from left to right, each by the place after it.
-use Rattle.std.proofs.Common.{refl, arith, rules}
+use Rattle.std.proofs.Common.{refl, arith}
 use Rattle.text.specs.Cursor.{field_start}
 use Rattle.cue_sheet.specs.CueLine.{read_fields}
 use Rattle.cue_sheet.proofs.line.read_fields.Goals as goal

@@ -1,5 +1,5 @@
 -- The field's bytes are those up to the place after it.
-use Rattle.std.proofs.Common.{arith, rules}
+use Rattle.std.proofs.Common.{arith}
 use Rattle.cue_sheet.proofs.line.read_knob.Goals as goal
 
 pub part-requires : goal.part-requires

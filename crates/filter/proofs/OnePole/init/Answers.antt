@@ -1,5 +1,4 @@
 -- The definition, of what the two calls give; the literals agree by computing.
-use borrow.Author.Rules.{rules}
 use lib.Ieee.{round, of_bits}
 use Rattle.filter.proofs.OnePole.init.Goals as goal
 

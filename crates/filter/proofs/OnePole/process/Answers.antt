@@ -1,5 +1,4 @@
 -- In each arm the mode is known, and the definition computes.
-use borrow.Author.Rules.{rules}
 use lib.Ieee.{round, of_bits}
 use Rattle.filter.specs.OnePole.{process, output}
 use Rattle.filter.proofs.OnePole.process.Goals as goal

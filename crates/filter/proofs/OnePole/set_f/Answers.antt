@@ -1,5 +1,4 @@
 -- The definition, of what `tan` gives; the literals agree by computing.
-use borrow.Author.Rules.{rules}
 use lib.Ieee.{round, of_bits}
 use Rattle.filter.specs.OnePole.{set_f}
 use Rattle.filter.proofs.OnePole.set_f.Goals as goal

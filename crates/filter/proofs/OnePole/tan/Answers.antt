@@ -1,5 +1,4 @@
 -- In each arm the approximation is known; the products of constants, which the compiler folds, agree by computing.
-use borrow.Author.Rules.{rules}
 use lib.Ieee.{round, of_bits, mul}
 use Rattle.filter.specs.OnePole.{tan}
 use Rattle.filter.proofs.OnePole.tan.Goals as goal

@@ -1,5 +1,4 @@
 -- In each arm the mode is known, and the definition computes.
-use borrow.Author.Rules.{rules}
 use Rattle.filter.specs.Svf.{output}
 use Rattle.filter.proofs.Passed.output.Goals as goal
 

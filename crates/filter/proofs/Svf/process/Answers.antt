@@ -1,5 +1,4 @@
 -- The definition, of what `passed` and `output` give.
-use borrow.Author.Rules.{rules}
 use Rattle.filter.specs.Svf.{process}
 use Rattle.filter.proofs.Svf.process.Goals as goal
 

@@ -1,11 +1,10 @@
 -- `block`'s loop of a stage, over as many samples as the shorter slice has; `process` is its stage.
-use borrow.Author.Rules.{rules}
-use Rattle.std.specs.Prelude.{◌-◌, ◌<◌, length, take}
+use Rattle.std.specs.Prelude.{◌<◌, length}
 use native.Mathlib.Omega.{arith}
 use lib.ListN.{length-take}
 use lib.Seq.{get_or-take}
 use lib.Ieee.{nan}
-use Rattle.block.proofs.Blocks.{Going, begin, turn, end}
+use Rattle.block.proofs.Blocks.{begin, turn, end}
 use Rattle.filter.specs.Svf.{stage}
 use Rattle.filter.proofs.Svf.process_buffer.Goals as goal
 

@@ -1,10 +1,5 @@
-use borrow.Author.Rules.{rules}
-use Rattle.std.specs.Prelude.{◌-◌, ◌<◌, length, take}
-use native.Mathlib.Omega.{arith}
-use lib.ListN.{length-take}
-use lib.Seq.{get_or-take}
-use lib.Ieee.{nan}
-use Rattle.block.proofs.Blocks.{Going, begin, turn, end}
+use Rattle.std.specs.Prelude.{◌-◌, length, take}
+use Rattle.block.proofs.Blocks.{Going}
 use Rattle.filter.specs.Svf.{stage}
 use Rattle.filter.proofs.Svf.process_buffer.Given as goal
 

@@ -1,5 +1,4 @@
 -- The definition, of what `passed` gives and `output` chooses twice.
-use borrow.Author.Rules.{rules}
 use Rattle.filter.specs.Svf.{process_dual}
 use Rattle.filter.proofs.Svf.process_dual.Goals as goal
 

@@ -1,5 +1,4 @@
 -- The definition, of what the two calls give.
-use borrow.Author.Rules.{rules}
 use Rattle.filter.proofs.Svf.set_f_q.Goals as goal
 
 pub returns : goal.returns

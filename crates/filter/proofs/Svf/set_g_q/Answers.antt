@@ -1,5 +1,4 @@
 -- The definition, of what `set_g_r` gives; the literals agree by computing.
-use borrow.Author.Rules.{rules}
 use lib.Ieee.{round, of_bits}
 use Rattle.filter.specs.Svf.{set_g_q}
 use Rattle.filter.proofs.Svf.set_g_q.Goals as goal

@@ -1,5 +1,4 @@
 -- The answer decides what the call leaves.
-use Rattle.std.proofs.Common.{rules}
 use Rattle.refusal.proofs.ByNumber.{arm-accepted, arm-refused}
 use Rattle.hihat.proofs.Hihat.init.Goals as goal
 

@@ -1,5 +1,5 @@
 -- The number of the answer decides what the call leaves; an accepted one's block is short, and its one pass leaves what the five passes leave.
-use Rattle.std.proofs.Common.{refl, rules}
+use Rattle.std.proofs.Common.{refl}
 use Rattle.refusal.proofs.ByNumber.{zero_of, suc_of, short_block}
 use Rattle.hihat.specs.Hihat.{render_refusal}
 use Rattle.hihat.proofs.OnePass.{five_passes}

@@ -1,11 +1,10 @@
 -- The loop's law of `block`: the loop is one pass over the block.
-use Rattle.std.proofs.Common.{◌-◌, length, get_or, ap, append-nil, arith, length-set, rules}
+use Rattle.std.proofs.Common.{get_or, ap, append-nil, arith, length-set}
 use lib.Seq.{drop-length}
 use lib.Ieee.{nan}
 use Rattle.block.specs.Block.{Turn}
-use Rattle.block.proofs.Blocks.{Going, begin, turn, end}
+use Rattle.block.proofs.Blocks.{begin, turn, end}
 use Rattle.hihat.specs.declared.Hihat.{Hihat}
-use Rattle.hihat.specs.OnePass.{step}
 use Rattle.hihat.proofs.Hihat.run.Goals as goal
 
 pub loop-i-init : goal.loop-i-init

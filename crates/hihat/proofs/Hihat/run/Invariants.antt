@@ -1,9 +1,5 @@
-use Rattle.std.proofs.Common.{◌-◌, length, get_or, ap, append-nil, arith, length-set, rules}
-use lib.Seq.{drop-length}
-use lib.Ieee.{nan}
-use Rattle.block.specs.Block.{Turn}
-use Rattle.block.proofs.Blocks.{Going, begin, turn, end}
-use Rattle.hihat.specs.declared.Hihat.{Hihat}
+use Rattle.std.proofs.Common.{◌-◌, length}
+use Rattle.block.proofs.Blocks.{Going}
 use Rattle.hihat.specs.OnePass.{step}
 use Rattle.hihat.proofs.Hihat.run.Given as goal
 

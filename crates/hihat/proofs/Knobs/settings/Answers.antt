@@ -1,5 +1,4 @@
 -- Line by line the definition, the last call first.
-use Rattle.std.proofs.Common.{rules}
 use lib.Ieee.{round, of_bits}
 use Rattle.hihat.specs.Hihat.{settings}
 use Rattle.hihat.proofs.Knobs.settings.Goals as goal

@@ -1,5 +1,4 @@
 -- An increment at each of the six places, the last call first; the ratios are those of the definition.
-use Rattle.std.proofs.Common.{rules}
 use lib.Ieee.{round, of_bits}
 use Rattle.hihat.specs.SquareNoise.{increments, ratios}
 use Rattle.hihat.proofs.square_noise.increments.Goals as goal

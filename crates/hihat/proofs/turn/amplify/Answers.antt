@@ -1,5 +1,4 @@
 -- The definition's two arms, by the kind of the VCA.
-use Rattle.std.proofs.Common.{rules}
 use Rattle.hihat.specs.Hihat.{amplify}
 use Rattle.hihat.proofs.turn.amplify.Goals as goal
 

@@ -1,5 +1,4 @@
 -- The laws of `Whole`: below 1, past the width, and the significand moved to its place.
-use borrow.Author.Rules.{rules}
 use borrow.Author.Tests.{le-leb}
 use mathlib.Core.Path.{◌≡◌, ◌∙◌}
 use mathlib.Core.Bool.{not}

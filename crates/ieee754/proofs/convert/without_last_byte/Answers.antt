@@ -1,5 +1,4 @@
 -- The laws of `Whole` for a quotient by 256; the masks are remainders.
-use borrow.Author.Rules.{rules}
 use mathlib.Core.Path.{◌≡◌, sym}
 use Prim.Native.Nat.{ℕ, ◌/◌, ◌%◌}
 use native.Mathlib.Omega.{arith}

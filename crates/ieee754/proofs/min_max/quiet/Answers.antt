@@ -1,5 +1,4 @@
 -- The sum of two NaNs is one.
-use borrow.Author.Rules.{rules}
 use lib.Ieee.{binary32}
 use Rattle.ieee754.proofs.Choice.{nan_sum}
 use Rattle.ieee754.proofs.min_max.quiet.Goals as goal

@@ -1,5 +1,4 @@
 -- The sum of two NaNs is one.
-use borrow.Author.Rules.{rules}
 use lib.Ieee.{binary64}
 use Rattle.ieee754.proofs.Choice.{nan_sum}
 use Rattle.ieee754.proofs.min_max_f64.quiet.Goals as goal

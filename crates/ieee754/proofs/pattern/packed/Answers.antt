@@ -1,7 +1,6 @@
 -- The law of `SmallestUnits`: nothing is shifted out, and the pattern is no NaN's.
-use borrow.Author.Rules.{rules}
 use mathlib.Core.Path.{◌≡◌}
-use Prim.Native.Nat.{◌+◌, ◌*◌, ◌%◌, ◌^◌, ◌≤◌, ◌<◌}
+use Prim.Native.Nat.{◌+◌, ◌*◌, ◌%◌, ◌^◌, ◌≤◌}
 use native.Mathlib.Nat.{lt_of_le_of_lt, mul-le-mul}
 use native.Mathlib.Omega.{arith}
 use lib.Dec.{lit<, le→leb}

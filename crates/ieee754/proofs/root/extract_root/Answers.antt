@@ -1,5 +1,4 @@
 -- Heron's rule: at the loop's head `root` is not below the root without its fraction.
-use borrow.Author.Rules.{rules}
 use mathlib.Core.Path.{◌≡◌}
 use Prim.Native.Nat.{ℕ, suc, ◌+◌, ◌-◌, ◌*◌, ◌/◌, ◌^◌, ◌<◌}
 use native.Mathlib.Nat.{mul-le-mul, div-lt_iff_lt-mul}

@@ -1,9 +1,4 @@
-use borrow.Author.Rules.{rules}
-use mathlib.Core.Path.{◌≡◌}
-use Prim.Native.Nat.{ℕ, suc, ◌+◌, ◌-◌, ◌*◌, ◌/◌, ◌^◌, ◌<◌}
-use native.Mathlib.Nat.{mul-le-mul, div-lt_iff_lt-mul}
-use native.Mathlib.Omega.{arith}
-use Rattle.ieee754.proofs.Numbers.{sq_lt_back, heron}
+use Prim.Native.Nat.{suc, ◌*◌, ◌^◌, ◌<◌}
 use Rattle.ieee754.proofs.root.extract_root.Given as goal
 
 abbrev pub invariant-loop-root : goal.invariant-loop-root

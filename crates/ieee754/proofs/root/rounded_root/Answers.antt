@@ -1,5 +1,4 @@
 -- The radicand has 47 or 48 digits, so its root has 24; the laws of `Cut` round it.
-use borrow.Author.Rules.{rules}
 use mathlib.Core.Path.{◌≡◌, sym, ap, ◌∙◌}
 use Prim.Native.Nat.{ℕ, ◌+◌, ◌*◌, ◌/◌, ◌%◌, ◌^◌, ◌≤◌, ◌<◌}
 use native.Mathlib.Nat.{mod-eq_of_lt, lt_of_lt_of_le, le_of_suc-le-suc, le-add_right, mul-le-mul}

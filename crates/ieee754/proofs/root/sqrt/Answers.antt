@@ -1,15 +1,14 @@
 -- The operands of `Cut`, one by one; a value above 0 is a significand at its place, a subnormal one moved up to it.
-use borrow.Author.Rules.{rules}
 use borrow.Author.Tests.{le-leb}
 use mathlib.Core.Path.{◌≡◌, sym, ap, ◌∙◌}
-use mathlib.Core.Bool.{false, not, true≢false}
+use mathlib.Core.Bool.{false, true≢false}
 use Prim.Native.Nat.{ℕ, suc, ◌+◌, ◌-◌, ◌*◌, ◌/◌, ◌%◌, ◌^◌, ◌≤◌, ◌<◌}
 use native.Mathlib.Nat.{le_trans, lt_of_not-le, not-le_of_lt, mod-eq_of_lt, mul_assoc, mul-one, mul-pos, pos_of_ne-zero}
 use native.Mathlib.Omega.{arith}
 use lib.Count.{count_leading_zeros, leading_top}
 use lib.Dec.{T}
 use lib.Pow.{pow-add, pow_mono, pow_pos}
-use lib.Ieee.{Float, binary32, fits, is_nan, of_bits, to_bits, div, eq}
+use lib.Ieee.{Float, binary32, fits, of_bits, to_bits, div, eq}
 use lib.Ieee.Bits.{of_bits-to_bits}
 use lib.Ieee.Exact.{HasValue}
 use Rattle.ieee754.specs.Root.{root_of, sqrt}

@@ -1,5 +1,4 @@
 -- The definition, of the size as a float.
-use borrow.Author.Rules.{rules}
 use Rattle.parameter_interpolator.proofs.ParameterInterpolator.new.Goals as goal
 
 pub returns : goal.returns

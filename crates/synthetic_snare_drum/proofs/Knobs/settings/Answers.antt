@@ -1,5 +1,4 @@
 -- Line by line the definition, the last call first.
-use borrow.Author.Rules.{rules}
 use lib.Ieee.{round, of_bits}
 use Rattle.synthetic_snare_drum.specs.SyntheticSnareDrum.{settings}
 use Rattle.synthetic_snare_drum.proofs.Knobs.settings.Goals as goal

@@ -1,5 +1,4 @@
 -- The definition's arms: a sustained block, one whose hold has ended, one that is held.
-use borrow.Author.Rules.{rules}
 use borrow.Author.Tests.{ne_eqb}
 use lib.Ieee.{round, of_bits}
 use Rattle.synthetic_snare_drum.specs.Parts.{enveloped}

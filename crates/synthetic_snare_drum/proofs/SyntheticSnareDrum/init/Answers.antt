@@ -1,5 +1,4 @@
 -- The answer decides what the call leaves.
-use borrow.Author.Rules.{rules}
 use Rattle.refusal.proofs.ByNumber.{arm-accepted, arm-refused}
 use Rattle.synthetic_snare_drum.proofs.SyntheticSnareDrum.init.Goals as goal
 

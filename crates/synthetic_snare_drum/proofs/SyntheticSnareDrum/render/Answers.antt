@@ -1,5 +1,4 @@
 -- The number of the answer decides what the call leaves; an accepted one's block is short.
-use borrow.Author.Rules.{rules}
 use mathlib.Core.Path.{refl}
 use Rattle.refusal.proofs.ByNumber.{zero_of, suc_of, short_block}
 use Rattle.synthetic_snare_drum.specs.SyntheticSnareDrum.{render_refusal}

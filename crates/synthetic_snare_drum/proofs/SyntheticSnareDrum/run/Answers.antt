@@ -1,11 +1,7 @@
 -- The loop's law of `block`.
-use borrow.Author.Rules.{rules}
-use Prim.Native.Nat.{◌-◌}
 use native.Mathlib.Omega.{arith}
-use lib.ListN.{length, length-set}
-use Rattle.block.specs.Block.{source}
-use Rattle.block.proofs.Blocks.{Going, begin, turn, end_source}
-use Rattle.synthetic_snare_drum.specs.SyntheticSnareDrum.{step}
+use lib.ListN.{length-set}
+use Rattle.block.proofs.Blocks.{begin, turn, end_source}
 use Rattle.synthetic_snare_drum.proofs.SyntheticSnareDrum.run.Goals as goal
 
 pub loop-i-init : goal.loop-i-init

@@ -1,9 +1,7 @@
-use borrow.Author.Rules.{rules}
 use Prim.Native.Nat.{◌-◌}
-use native.Mathlib.Omega.{arith}
-use lib.ListN.{length, length-set}
+use lib.ListN.{length}
 use Rattle.block.specs.Block.{source}
-use Rattle.block.proofs.Blocks.{Going, begin, turn, end_source}
+use Rattle.block.proofs.Blocks.{Going}
 use Rattle.synthetic_snare_drum.specs.SyntheticSnareDrum.{step}
 use Rattle.synthetic_snare_drum.proofs.SyntheticSnareDrum.run.Given as goal
 

@@ -1,5 +1,4 @@
 -- The last call first; the drum always decays.
-use borrow.Author.Rules.{rules}
 use lib.Ieee.{round, of_bits}
 use Rattle.synthetic_snare_drum.specs.SyntheticSnareDrum.{step}
 use Rattle.synthetic_snare_drum.specs.Parts.{enveloped}

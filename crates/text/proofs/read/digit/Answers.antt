@@ -6,7 +6,6 @@ use mathlib.Core.Path.{◌≡◌, sym, ◌∙◌}
 use mathlib.Core.List.{List, [], ◌∷◌}
 use borrow.Author.Tests.{eq-eqb, ne_eqb}
 use Rattle.text.specs.Read.{digit, index_of}
-use borrow.Author.Rules.{rules}
 use Rattle.text.proofs.read.digit.Goals as goal
 
 -- n bytes from s on, and then others

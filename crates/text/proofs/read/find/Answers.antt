@@ -1,8 +1,5 @@
 -- From place i the byte lies where it does from place `at`.
-use Prim.Native.Nat.{◌+◌, ◌-◌, ◌≤◌, max}
-use mathlib.Core.Path.{◌≡◌, refl}
-use lib.ListN.{length, drop}
-use Rattle.text.specs.Read.{index_of}
+use mathlib.Core.Path.{refl}
 use Rattle.text.proofs.Lines.{over, here, on}
 use borrow.Author.Rules.{rules}
 use Rattle.text.proofs.read.find.Goals as goal

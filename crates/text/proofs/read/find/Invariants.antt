@@ -1,9 +1,7 @@
 use Prim.Native.Nat.{◌+◌, ◌-◌, ◌≤◌, max}
-use mathlib.Core.Path.{◌≡◌, refl}
+use mathlib.Core.Path.{◌≡◌}
 use lib.ListN.{length, drop}
 use Rattle.text.specs.Read.{index_of}
-use Rattle.text.proofs.Lines.{over, here, on}
-use borrow.Author.Rules.{rules}
 use Rattle.text.proofs.read.find.Given as goal
 
 abbrev pub invariant-loop-i : goal.invariant-loop-i

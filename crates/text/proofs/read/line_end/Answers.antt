@@ -1,6 +1,5 @@
 -- A line ends after its line end, or where the text ends.
 use Rattle.text.proofs.Lines.{end_found, end_none}
-use borrow.Author.Rules.{rules}
 use Rattle.text.proofs.read.line_end.Goals as goal
 
 pub returns-then-e-text : goal.returns-then-e-text

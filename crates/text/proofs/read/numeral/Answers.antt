@@ -1,9 +1,7 @@
 -- The digits before place i stand for n; one more keeps n within 64 bits.
-use Prim.Native.Nat.{◌-◌}
 use native.Mathlib.Omega.{arith}
 use mathlib.Core.Path.{refl}
-use lib.ListN.{length}
-use Rattle.text.proofs.Numeral.{Reading, end, room, no_digit, too_large, turn}
+use Rattle.text.proofs.Numeral.{end, room, no_digit, too_large, turn}
 use borrow.Author.Rules.{rules}
 use Rattle.text.proofs.read.numeral.Goals as goal
 

@@ -1,9 +1,6 @@
 use Prim.Native.Nat.{◌-◌}
-use native.Mathlib.Omega.{arith}
-use mathlib.Core.Path.{refl}
 use lib.ListN.{length}
-use Rattle.text.proofs.Numeral.{Reading, end, room, no_digit, too_large, turn}
-use borrow.Author.Rules.{rules}
+use Rattle.text.proofs.Numeral.{Reading}
 use Rattle.text.proofs.read.numeral.Given as goal
 
 abbrev pub invariant-loop-i : goal.invariant-loop-i

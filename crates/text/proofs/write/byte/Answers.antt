@@ -1,6 +1,5 @@
 -- Past its end the buffer takes nothing.
 use Rattle.text.proofs.Written.{past}
-use borrow.Author.Rules.{rules}
 use Rattle.text.proofs.write.byte.Goals as goal
 
 pub returns : goal.returns

@@ -1,8 +1,5 @@
 -- What is left to write is the text from i on.
-use Prim.Native.Nat.{◌-◌}
-use lib.ListN.{length, drop}
-use Rattle.text.proofs.Written.{Writing, begin, copy_turn, copy_end}
-use borrow.Author.Rules.{rules}
+use Rattle.text.proofs.Written.{begin, copy_turn, copy_end}
 use Rattle.text.proofs.write.bytes.Goals as goal
 
 pub loop-i-init : goal.loop-i-init

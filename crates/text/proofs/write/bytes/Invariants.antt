@@ -1,7 +1,6 @@
 use Prim.Native.Nat.{◌-◌}
 use lib.ListN.{length, drop}
-use Rattle.text.proofs.Written.{Writing, begin, copy_turn, copy_end}
-use borrow.Author.Rules.{rules}
+use Rattle.text.proofs.Written.{Writing}
 use Rattle.text.proofs.write.bytes.Given as goal
 
 abbrev pub invariant-loop-i : goal.invariant-loop-i

@@ -1,6 +1,5 @@
 -- The number and the byte are one text.
 use Rattle.text.proofs.Written.{then}
-use borrow.Author.Rules.{rules}
 use Rattle.text.proofs.write.number.Goals as goal
 
 pub returns : goal.returns

@@ -1,6 +1,5 @@
 -- The eight digits are the text.
 use Rattle.text.specs.Write.{pattern}
-use borrow.Author.Rules.{rules}
 use Rattle.text.proofs.write.pattern.Goals as goal
 
 pub returns : goal.returns

@@ -1,7 +1,6 @@
 -- The word, the number and the line are one text.
 use Rattle.text.specs.Write.{refused}
 use Rattle.text.proofs.Written.{then-both}
-use borrow.Author.Rules.{rules}
 use Rattle.text.proofs.write.refused.Goals as goal
 
 pub returns : goal.returns

@@ -1,5 +1,4 @@
 -- The two tests are the definition's patterns 0 and n + 1, and its test of n.
-use borrow.Author.Rules.{rules}
 use borrow.Author.Tests.{eq-eqb, ne_eqb}
 use mathlib.Core.Path.{◌≡◌, ap}
 use Prim.Native.Nat.{ℕ, suc, ◌-◌}

@@ -1,7 +1,6 @@
 -- The static is the definition's table, entry by entry.
-use mathlib.Core.Path.{refl, ap}
-use lib.ListN.{get_or}
-use lib.Ieee.{nan, round, of_bits}
+use mathlib.Core.Path.{refl}
+use lib.Ieee.{round, of_bits}
 use Rattle.units.specs.Tables.{LUT_PITCH_RATIO_LOW}
 use Rattle.units.proofs.tables.low.Goals as goal
 

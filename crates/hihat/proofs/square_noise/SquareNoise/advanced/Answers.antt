@@ -1,5 +1,4 @@
 -- A sum at each of the six places.
-use Rattle.std.proofs.Common.{rules}
 use Rattle.hihat.specs.SquareNoise.{advanced}
 use Rattle.hihat.proofs.square_noise.SquareNoise.advanced.Goals as goal
 

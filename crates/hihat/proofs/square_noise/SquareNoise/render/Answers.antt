@@ -1,8 +1,6 @@
 -- The loop's law of `block`, over the increments of f0.
-use Rattle.std.proofs.Common.{◌-◌, length, arith, length-set, rules}
-use Rattle.block.specs.Block.{source}
-use Rattle.block.proofs.Blocks.{Going, begin, turn as going, end_source}
-use Rattle.hihat.specs.SquareNoise.{turn}
+use Rattle.std.proofs.Common.{arith, length-set}
+use Rattle.block.proofs.Blocks.{begin, turn as going, end_source}
 use Rattle.hihat.proofs.square_noise.SquareNoise.render.Goals as goal
 
 pub loop-i-init : goal.loop-i-init

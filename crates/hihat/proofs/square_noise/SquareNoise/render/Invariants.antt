@@ -1,6 +1,6 @@
-use Rattle.std.proofs.Common.{◌-◌, length, arith, length-set, rules}
+use Rattle.std.proofs.Common.{◌-◌, length}
 use Rattle.block.specs.Block.{source}
-use Rattle.block.proofs.Blocks.{Going, begin, turn as going, end_source}
+use Rattle.block.proofs.Blocks.{Going}
 use Rattle.hihat.specs.SquareNoise.{turn}
 use Rattle.hihat.proofs.square_noise.SquareNoise.render.Given as goal
 

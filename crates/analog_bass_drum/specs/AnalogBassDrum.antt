@@ -155,3 +155,24 @@ render self trigger accent k out =
     let n = length out in
     let voice = cond trigger (triggered self accent) self in
     call (render_refusal accent k n) (after turn n voice) (samples turn n voice) self out
+
+-- ---- `render` as two calls (specs/StrikeThenRun.antt): a strike is what stands under `if trigger {`, a run is all else
+
+abbrev pub strike : AnalogBassDrum → Float → Call AnalogBassDrum
+strike self accent = call (ask (is_unit accent) 4 0) (triggered self accent) [] self []
+
+unfoldable pub run_refusal : Knobs → ℕ → ℕ
+run_refusal k samples =
+    ask (is_block_length samples) 2
+    (ask (is_frequency k.f0) 3
+    (ask (is_unit k.tone) 5
+    (ask (is_bass_decay k.decay) 5
+    (ask (is_unit k.attack_fm_amount) 5
+    (ask (is_unit k.self_fm_amount) 5 0)))))
+
+abbrev pub run : AnalogBassDrum → Knobs → List Float → Call AnalogBassDrum
+run self k out =
+    let turn = step (settings k) in
+    let n = length out in
+    let voice = self in
+    call (run_refusal k n) (after turn n voice) (samples turn n voice) self out

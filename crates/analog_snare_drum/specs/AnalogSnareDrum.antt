@@ -200,3 +200,23 @@ render self trigger accent k out =
     let n = length out in
     let voice = tuned b (cond trigger (triggered self accent) self) in
     call (render_refusal accent k n) (after (step b) n voice) (samples (step b) n voice) self out
+
+-- ---- `render` as two calls (specs/StrikeThenRun.antt): a strike is what stands under `if trigger {`, a run is all else
+
+abbrev pub strike : AnalogSnareDrum → Float → Call AnalogSnareDrum
+strike self accent = call (ask (is_unit accent) 4 0) (triggered self accent) [] self []
+
+unfoldable pub run_refusal : Knobs → ℕ → ℕ
+run_refusal k samples =
+    ask (is_block_length samples) 2
+    (ask (is_frequency k.f0) 3
+    (ask (is_unit k.tone) 5
+    (ask (is_unit k.decay) 5
+    (ask (is_unit k.snappy) 5 0))))
+
+abbrev pub run : AnalogSnareDrum → Knobs → List Float → Call AnalogSnareDrum
+run self k out =
+    let b = settings k in
+    let n = length out in
+    let voice = tuned b (self) in
+    call (run_refusal k n) (after (step b) n voice) (samples (step b) n voice) self out

@@ -158,10 +158,37 @@ impl AnalogSnareDrum {
                 let voice = self
                     .triggered(trigger, accent)
                     .tuned(settings)
-                    .run(settings, out);
+                    .fill(settings, out);
                 Answered { answer, voice }
             }
         }
+    }
+
+    // `render` as two calls: what it does where its trigger is set, and a block without a trigger.
+    pub fn strike(self, accent: f32) -> Answered
+        ensures number { answer_number result.answer ≡ (spec.strike self accent).number }
+        ensures voice { result.voice ≡ (spec.strike self accent).state }
+    {
+        let answer = refusal::ask_accent(accent, Answer::Accepted);
+        match answer {
+            Answer::Refused(_) => Answered {
+                answer,
+                voice: self,
+            },
+            Answer::Accepted => {
+                let voice = self.triggered(true, accent);
+                Answered { answer, voice }
+            }
+        }
+    }
+
+    // 0.0 passes the question that an untriggered `render` asks of an accent and makes nothing of.
+    pub fn run(self, knobs: Knobs, out: &mut [f32]) -> Answered
+        ensures number { answer_number result.answer ≡ (spec.run self knobs out.old).number }
+        ensures voice { result.voice ≡ (spec.run self knobs out.old).state }
+        ensures out { out.new ≡ (spec.run self knobs out.old).out }
+    {
+        self.render(false, 0.0, knobs, out)
     }
 
     fn triggered(self, trigger: bool, accent: f32) -> Self
@@ -204,7 +231,7 @@ impl AnalogSnareDrum {
     }
 
     // The loop over the block.
-    fn run(self, settings: Settings, out: &mut [f32]) -> Self
+    fn fill(self, settings: Settings, out: &mut [f32]) -> Self
         ensures voice { result ≡ after (spec.step settings) (length out.old) self }
         ensures out { out.new ≡ samples (spec.step settings) (length out.old) self }
     {

@@ -2,3 +2,4 @@
 mod OnePass
 pub mod Rate
 pub mod AnyBlockLength
+pub mod StrikeThenRun

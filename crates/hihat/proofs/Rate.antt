@@ -1,9 +1,10 @@
--- A call of `render`, refused or accepted, leaves the voice's rate as it was: no pass changes it.
+-- A call of `render` or of `strike`, refused or accepted, leaves the voice's rate as it was: no pass changes it.
 use Rattle.std.proofs.Common.{◌≡◌, ℕ, zero, suc, Bool, true, false, cond, List, length, refl}
 use lib.Ieee.{Float}
 use Rattle.block.specs.Block.{Passed}
 use Rattle.block.proofs.Blocks.{scanned_keeps}
 use Rattle.refusal.specs.Refusal.{unless_refused}
+use Rattle.refusal.proofs.ByNumber.{call_keeps}
 use Rattle.hihat.specs.declared.Hihat.{Hihat}
 use Rattle.hihat.specs.declared.Knobs.{Knobs}
 use Rattle.hihat.specs.declared.Settings.{Settings}
@@ -27,3 +28,7 @@ kept v k b out (suc n) t = refl
 pub rate_kept : (v : Hihat) (trigger : Bool) (kind : VcaType) (k : Knobs) (out : List Float)
     → (spec.render v trigger kind k out).state.sample_rate ≡ v.sample_rate
 rate_kept v trigger kind k out = kept v k _ out (spec.render_refusal v.sample_rate k (length out)) trigger
+
+pub strike_keeps_rate : (v : Hihat) (accent decay : Float) → (spec.strike v accent decay).state.sample_rate ≡ v.sample_rate
+unfolding spec.struck
+strike_keeps_rate v accent decay = call_keeps (λ (w : Hihat). w.sample_rate) (spec.strike_refusal v.sample_rate accent decay) _ v refl

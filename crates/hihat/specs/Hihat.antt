@@ -1,5 +1,5 @@
 -- drums/hihat.rs: `Hihat`, statement by statement, for `NoiseType::Square`. Definitions only.
-use Rattle.std.specs.Prelude.{ℕ, Bool, cond, not, ◌||◌, List, [], length, Float}
+use Rattle.std.specs.Prelude.{ℕ, Bool, false, cond, not, ◌||◌, List, [], length, Float}
 use Rattle.std.specs.Float.Ieee.{neg, le, lt}
 use Rattle.ieee754.specs.Single.{◌⊕◌, ◌⊖◌, ◌⊗◌, ◌⊘◌, decimal}
 use Rattle.ieee754.specs.Operations.{abs, clamp}
@@ -217,3 +217,23 @@ render self trigger vca_type k out =
     let begun = cond trigger (triggered self k) self in
     let p = passes b (record { state = begun; out = out }) in
     call (render_refusal self.sample_rate k (length out)) p.state p.out self out
+
+-- ---- `render` as two calls (specs/StrikeThenRun.antt): a strike is what stands under `if trigger {`, a run is all else
+
+unfoldable pub struck : Hihat → Float → Float → Hihat
+struck self accent decay =
+    let envelope = (decimal 15 1 ⊕ decimal 5 1 ⊗ (decimal 1 0 ⊖ decay)) ⊗ (decimal 3 1 ⊕ decimal 7 1 ⊗ accent) in
+    gains self envelope self.sustain_gain
+
+unfoldable pub strike_refusal : Float → Float → Float → ℕ
+strike_refusal sample_rate accent decay =
+    ask (is_sample_rate sample_rate) 1
+    (ask (is_unit accent) 4
+    (ask (is_unit decay) 5 0))
+
+abbrev pub strike : Hihat → Float → Float → Call Hihat
+strike self accent decay = call (strike_refusal self.sample_rate accent decay) (struck self accent decay) [] self []
+
+-- it asks what `render` asks, accent too
+abbrev pub run : Hihat → VcaType → Knobs → List Float → Call Hihat
+run self vca_type k out = render self false vca_type k out

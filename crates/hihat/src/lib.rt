@@ -140,9 +140,44 @@ impl Hihat {
                 let voice = self
                     .triggered(trigger, knobs)
                     .tuned(settings)
-                    .run(settings, out);
+                    .fill(settings, out);
                 Answered { answer, voice }
             }
+        }
+    }
+
+    // `render` as two calls: what it does where its trigger is set, and a block without a trigger.
+    pub fn strike(self, accent: f32, decay: f32) -> Answered
+        ensures number { answer_number result.answer ≡ (spec.strike self accent decay).number }
+        ensures voice { result.voice ≡ (spec.strike self accent decay).state }
+    {
+        let answer = ask_strike(self.sample_rate, accent, decay);
+        match answer {
+            Answer::Refused(_) => Answered {
+                answer,
+                voice: self,
+            },
+            Answer::Accepted => {
+                let voice = self.struck(accent, decay);
+                Answered { answer, voice }
+            }
+        }
+    }
+
+    pub fn run(self, vca_type: VcaType, knobs: Knobs, out: &mut [f32]) -> Answered
+        ensures number { answer_number result.answer ≡ (spec.run self vca_type knobs out.old).number }
+        ensures voice { result.voice ≡ (spec.run self vca_type knobs out.old).state }
+        ensures out { out.new ≡ (spec.run self vca_type knobs out.old).out }
+    {
+        self.render(false, vca_type, knobs, out)
+    }
+
+    fn struck(self, accent: f32, decay: f32) -> Self
+        ensures { result ≡ spec.struck self accent decay }
+    {
+        Hihat {
+            envelope: (1.5 + 0.5 * (1.0 - decay)) * (0.3 + 0.7 * accent),
+            ..self
         }
     }
 
@@ -150,10 +185,7 @@ impl Hihat {
         ensures { result ≡ (if trigger then spec.triggered self knobs else self) }
     {
         if trigger {
-            Hihat {
-                envelope: (1.5 + 0.5 * (1.0 - knobs.decay)) * (0.3 + 0.7 * knobs.accent),
-                ..self
-            }
+            self.struck(knobs.accent, knobs.decay)
         } else {
             self
         }
@@ -179,7 +211,7 @@ impl Hihat {
     }
 
     // The loop over the block.
-    fn run(self, settings: Settings, out: &mut [f32]) -> Self
+    fn fill(self, settings: Settings, out: &mut [f32]) -> Self
         ensures voice { result ≡ scanned (step settings) self out.old }
         ensures out { out.new ≡ scan (step settings) self out.old }
     {
@@ -219,6 +251,15 @@ impl Hihat {
             sample: square_noise.level(),
         }
     }
+}
+
+// The questions of `strike`, the last one first.
+fn ask_strike(sample_rate: f32, accent: f32, decay: f32) -> Answer
+    ensures { answer_number result ≡ spec.strike_refusal sample_rate accent decay }
+{
+    let decay = refusal::ask_knob(decay, Answer::Accepted);
+    let accent = refusal::ask_accent(accent, decay);
+    refusal::ask_sample_rate(sample_rate, accent)
 }
 
 impl Knobs {

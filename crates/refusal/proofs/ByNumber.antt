@@ -2,7 +2,7 @@
 use mathlib.Core.Path.{◌≡◌, refl, sym, ap, ◌∙◌}
 use mathlib.Core.Bool.{Bool, true, false}
 use mathlib.Core.List.{[], ◌∷◌}
-use Prim.Native.Nat.{ℕ, suc, ◌-◌, ◌≤◌, ◌<◌}
+use Prim.Native.Nat.{ℕ, zero, suc, ◌-◌, ◌≤◌, ◌<◌}
 use native.Mathlib.Omega.{arith}
 use lib.ListN.{get_or}
 use lib.Ieee.{Float}
@@ -50,6 +50,11 @@ module _ {A : Type 0} (new old : A) (a : Answer) (n : ℕ) (known : answer_numbe
 
   pub arm-refused : (r : Refusal) → a ≡ Refused r → (answer_number a ≡ n) × (old ≡ unless_refused n new old)
   arm-refused r e = (known, rw (suc_of a n known r e))
+
+-- what the new value keeps of the old one, the call keeps
+pub call_keeps : {A B : Type 0} (f : A → B) (n : ℕ) (new old : A) → f new ≡ f old → f (unless_refused n new old) ≡ f old
+call_keeps f zero new old e = e
+call_keeps f (suc n) new old e = refl
 
 -- a nest of questions gives 0 exactly where each is passed
 pub passed : (q : Bool) (n next : ℕ) → 0 < n → ask q n next ≡ 0 → (q ≡ true) × (next ≡ 0)

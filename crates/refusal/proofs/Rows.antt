@@ -9,7 +9,7 @@ use Rattle.refusal.specs.Refusal.{Call, unless_refused}
 use Rattle.refusal.specs.Rows.{both, row, InTwo, InRows}
 
 -- ---- two calls that are accepted as one are accepted, and three are one in either way
-accepted : (m n : ℕ) → unless_refused m n m ≡ 0 → (m ≡ 0) × (n ≡ 0)
+pub accepted : (m n : ℕ) → unless_refused m n m ≡ 0 → (m ≡ 0) × (n ≡ 0)
 accepted zero n h = (refl, h)
 accepted (suc m) n h = absurd (omega arith)
 

@@ -1,5 +1,5 @@
 -- drums/synthetic_snare_drum.rs, statement by statement, sustain included. Definitions only.
-use Rattle.std.specs.Prelude.{ℕ, ◌-◌, ◌^◌, Bool, cond, not, ◌||◌, List, [], ◌∷◌, eqb, length, get_or, Float}
+use Rattle.std.specs.Prelude.{ℕ, ◌-◌, ◌^◌, Bool, false, cond, not, ◌||◌, List, [], ◌∷◌, eqb, length, get_or, Float}
 use Rattle.std.specs.Int.Bits.{bit_and}
 use Rattle.std.specs.Float.{nan}
 use Rattle.std.specs.Float.Ieee.{neg, le, lt, to_unsigned}
@@ -206,3 +206,18 @@ render self trigger k out =
     let voice = tuned self b in
     let begun = cond trigger (triggered voice k.accent k.decay) voice in
     call (render_refusal self.sample_rate_hz k size) (after (step b size) size begun) (samples (step b size) size begun) self out
+
+-- ---- `render` as two calls (specs/StrikeThenRun.antt): a strike is what stands under `if trigger {`, a run is all else
+
+unfoldable pub strike_refusal : Float → Float → Float → ℕ
+strike_refusal sample_rate_hz accent decay =
+    ask (is_sample_rate sample_rate_hz) 1
+    (ask (is_unit accent) 4
+    (ask (is_unit decay) 5 0))
+
+abbrev pub strike : SyntheticSnareDrum → Float → Float → Call SyntheticSnareDrum
+strike self accent decay = call (strike_refusal self.sample_rate_hz accent decay) (triggered self accent decay) [] self []
+
+-- it asks what `render` asks, accent too
+abbrev pub run : SyntheticSnareDrum → Knobs → List Float → Call SyntheticSnareDrum
+run self k out = render self false k out

@@ -135,16 +135,42 @@ impl SyntheticSnareDrum {
             Answer::Accepted => {
                 let settings = knobs.settings(self, out.len());
                 let tuned = self.tuned(settings);
-                // Two calls keep `run` a function of its own: as a part of this one its loop comes out slower by half.
+                // Two calls keep `fill` a function of its own: as a part of this one its loop comes out slower by half.
                 if trigger {
                     let triggered = tuned.triggered(knobs.accent, knobs.decay);
-                    let voice = triggered.run(settings, out);
+                    let voice = triggered.fill(settings, out);
                     return Answered { answer, voice };
                 }
-                let voice = tuned.run(settings, out);
+                let voice = tuned.fill(settings, out);
                 Answered { answer, voice }
             }
         }
+    }
+
+    // `render` as two calls: what it does where its trigger is set, and a block without a trigger.
+    pub fn strike(self, accent: f32, decay: f32) -> Answered
+        ensures number { answer_number result.answer ≡ (spec.strike self accent decay).number }
+        ensures voice { result.voice ≡ (spec.strike self accent decay).state }
+    {
+        let answer = ask_strike(self.sample_rate_hz, accent, decay);
+        match answer {
+            Answer::Refused(_) => Answered {
+                answer,
+                voice: self,
+            },
+            Answer::Accepted => {
+                let voice = self.triggered(accent, decay);
+                Answered { answer, voice }
+            }
+        }
+    }
+
+    pub fn run(self, knobs: Knobs, out: &mut [f32]) -> Answered
+        ensures number { answer_number result.answer ≡ (spec.run self knobs out.old).number }
+        ensures voice { result.voice ≡ (spec.run self knobs out.old).state }
+        ensures out { out.new ≡ (spec.run self knobs out.old).out }
+    {
+        self.render(false, knobs, out)
     }
 
     // The filters at the block's frequencies.
@@ -187,7 +213,7 @@ impl SyntheticSnareDrum {
     }
 
     // The loop over the block.
-    fn run(self, settings: Settings, out: &mut [f32]) -> Self
+    fn fill(self, settings: Settings, out: &mut [f32]) -> Self
         ensures voice { let n = length out.old in result ≡ after (spec.step settings n) n self }
         ensures out { let n = length out.old in out.new ≡ samples (spec.step settings n) n self }
     {
@@ -277,6 +303,15 @@ impl SyntheticSnareDrum {
             ..self
         }
     }
+}
+
+// The questions of `strike`, the last one first.
+fn ask_strike(sample_rate_hz: f32, accent: f32, decay: f32) -> Answer
+    ensures { answer_number result ≡ spec.strike_refusal sample_rate_hz accent decay }
+{
+    let decay = refusal::ask_knob(decay, Answer::Accepted);
+    let accent = refusal::ask_accent(accent, decay);
+    refusal::ask_sample_rate(sample_rate_hz, accent)
 }
 
 impl Knobs {

@@ -16,6 +16,6 @@ returns-in-Accepted c = let known = c.asked-answer.ensures in
     let none = zero_of _ _ known c.in-Accepted.is in
     record {
       number = known;
-      voice = rw (c.run-voice.ensures.voice, c.settings-settings.ensures, c.triggered.ensures, none) refl;
-      out = rw (c.run-voice.ensures.out, c.settings-settings.ensures, c.triggered.ensures, none) refl;
+      voice = rw (c.fill-voice.ensures.voice, c.settings-settings.ensures, c.triggered.ensures, none) refl;
+      out = rw (c.fill-voice.ensures.out, c.settings-settings.ensures, c.triggered.ensures, none) refl;
     }

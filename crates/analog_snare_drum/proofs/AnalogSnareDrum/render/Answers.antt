@@ -16,6 +16,6 @@ returns-in-Accepted c = let known = c.asked-answer.ensures in
     let none = zero_of _ _ known c.in-Accepted.is in
     record {
       number = known;
-      voice = rw none (rw (c.tuned.ensures, c.triggered.ensures, c.settings-settings.ensures) at c.run-voice.ensures.voice);
-      out = rw none (rw (c.tuned.ensures, c.triggered.ensures, c.settings-settings.ensures) at c.run-voice.ensures.out);
+      voice = rw none (rw (c.tuned.ensures, c.triggered.ensures, c.settings-settings.ensures) at c.fill-voice.ensures.voice);
+      out = rw none (rw (c.tuned.ensures, c.triggered.ensures, c.settings-settings.ensures) at c.fill-voice.ensures.out);
     }

@@ -1,34 +1,19 @@
--- The loop's law of `block`; an excitation that is kept at rest stays right.
-use native.Mathlib.Omega.{arith}
-use lib.ListN.{length-set}
-use Rattle.block.proofs.Blocks.{begin, turn, end_source}
-use Rattle.analog_snare_drum.proofs.Rest.{kept}
+-- An accent of 0.0 passes its question, and the two nests of questions are one.
+use mathlib.Core.Path.{◌≡◌}
+use Prim.Native.Nat.{ℕ}
+use lib.ListN.{length}
+use lib.Ieee.{binary32, of_bits}
+use Rattle.refusal.proofs.StrikeAndRun.{no_accent}
+use Rattle.analog_snare_drum.specs.AnalogSnareDrum.{render_refusal, run_refusal}
+use Rattle.analog_snare_drum.specs.declared.Knobs.{Knobs}
 use Rattle.analog_snare_drum.proofs.AnalogSnareDrum.run.Goals as goal
 
-pub loop-i-init : goal.loop-i-init
-loop-i-init c = (begin _ _ _ _ (omega arith), record { current = c.excitation-e.ensures; rest = c.is_at_rest-at_rest.ensures.0 })
-
-pub loop-i-smaller-then-not-at_rest : goal.loop-i-smaller-then-not-at_rest
-loop-i-smaller-then-not-at_rest c = simp length-set (omega arith)
-
-pub loop-i-smaller : goal.loop-i-smaller
-loop-i-smaller c = simp length-set (omega arith)
+same_questions : (k : Knobs) (n : ℕ) → render_refusal (of_bits binary32 0) k n ≡ run_refusal k n
+unfolding render_refusal run_refusal
+same_questions k n = rw no_accent
 
 pub returns : goal.returns
-returns c = let p = end_source _ _ _ _ _ _ c.loop-i.invariant.0 c.loop-i-test.false in
-    record { voice = p.0; out = p.1 }
-
--- a turn that makes the excitation anew, and one that keeps it
-pub loop-i-preserved-then-not-at_rest : goal.loop-i-preserved-then-not-at_rest
-loop-i-preserved-then-not-at_rest c =
-    let l = c.loop-i in (
-      rw (c.step-turn.ensures.voice, c.step-turn.ensures.sample) (turn _ _ _ _ _ _ _ l.invariant.0 (omega (arith, l.invariant.0.long))),
-      record { current = c.excitation-e-then-not-at_rest.ensures; rest = c.is_at_rest-at_rest-then-not-at_rest.ensures.0 },
-    )
-
-pub loop-i-preserved : goal.loop-i-preserved
-loop-i-preserved c =
-    let l = c.loop-i in (
-      rw (c.step-turn.ensures.voice, c.step-turn.ensures.sample) (turn _ _ _ _ _ _ _ l.invariant.0 (omega (arith, l.invariant.0.long))),
-      rw c.step-turn.ensures.voice (kept _ _ _ _ (c.if-not-at_rest.false) l.invariant.1),
-    )
+returns c =
+    let asked = same_questions c.args.knobs (length c.args.out.now) in
+    let r = c.render.ensures in
+    record { number = rw asked at r.number; voice = rw asked at r.voice; out = rw asked at r.out }

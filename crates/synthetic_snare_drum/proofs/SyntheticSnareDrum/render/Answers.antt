@@ -21,8 +21,8 @@ returns-then-trigger c = let known = c.asked-answer.ensures in
     let none = zero_of _ _ known c.in-Accepted.is in
     record {
       number = known;
-      voice = rw (none, c.if-trigger.true) (rw (c.triggered-triggered.ensures, c.tuned-tuned.ensures, c.settings-settings.ensures) at c.run-voice.ensures.voice);
-      out = rw (none, c.if-trigger.true) (rw (c.triggered-triggered.ensures, c.tuned-tuned.ensures, c.settings-settings.ensures) at c.run-voice.ensures.out);
+      voice = rw (none, c.if-trigger.true) (rw (c.triggered-triggered.ensures, c.tuned-tuned.ensures, c.settings-settings.ensures) at c.fill-voice.ensures.voice);
+      out = rw (none, c.if-trigger.true) (rw (c.triggered-triggered.ensures, c.tuned-tuned.ensures, c.settings-settings.ensures) at c.fill-voice.ensures.out);
     }
 
 pub returns-else-trigger : goal.returns-else-trigger
@@ -30,6 +30,6 @@ returns-else-trigger c = let known = c.asked-answer.ensures in
     let none = zero_of _ _ known c.in-Accepted.is in
     record {
       number = known;
-      voice = rw (none, c.if-trigger.false) (rw (c.tuned-tuned.ensures, c.settings-settings.ensures) at c.run-voice-in-Accepted.ensures.voice);
-      out = rw (none, c.if-trigger.false) (rw (c.tuned-tuned.ensures, c.settings-settings.ensures) at c.run-voice-in-Accepted.ensures.out);
+      voice = rw (none, c.if-trigger.false) (rw (c.tuned-tuned.ensures, c.settings-settings.ensures) at c.fill-voice-in-Accepted.ensures.voice);
+      out = rw (none, c.if-trigger.false) (rw (c.tuned-tuned.ensures, c.settings-settings.ensures) at c.fill-voice-in-Accepted.ensures.out);
     }

@@ -4,7 +4,7 @@ use Rattle.block.specs.Block.{source}
 use Rattle.block.proofs.Blocks.{Going}
 use Rattle.analog_snare_drum.specs.AnalogSnareDrum.{step}
 use Rattle.analog_snare_drum.proofs.Rest.{Kept}
-use Rattle.analog_snare_drum.proofs.AnalogSnareDrum.run.Given as goal
+use Rattle.analog_snare_drum.proofs.AnalogSnareDrum.fill.Given as goal
 
 abbrev pub invariant-loop-i : goal.invariant-loop-i
 invariant-loop-i l =

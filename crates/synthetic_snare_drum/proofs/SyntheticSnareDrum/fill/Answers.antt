@@ -2,7 +2,7 @@
 use native.Mathlib.Omega.{arith}
 use lib.ListN.{length-set}
 use Rattle.block.proofs.Blocks.{begin, turn, end_source}
-use Rattle.synthetic_snare_drum.proofs.SyntheticSnareDrum.run.Goals as goal
+use Rattle.synthetic_snare_drum.proofs.SyntheticSnareDrum.fill.Goals as goal
 
 pub loop-i-init : goal.loop-i-init
 loop-i-init c = begin _ _ _ _ (omega arith)

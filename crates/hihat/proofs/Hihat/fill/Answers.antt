@@ -5,7 +5,7 @@ use lib.Ieee.{nan}
 use Rattle.block.specs.Block.{Turn}
 use Rattle.block.proofs.Blocks.{begin, turn, end}
 use Rattle.hihat.specs.declared.Hihat.{Hihat}
-use Rattle.hihat.proofs.Hihat.run.Goals as goal
+use Rattle.hihat.proofs.Hihat.fill.Goals as goal
 
 pub loop-i-init : goal.loop-i-init
 loop-i-init c = begin _ _ _ _ (omega arith)

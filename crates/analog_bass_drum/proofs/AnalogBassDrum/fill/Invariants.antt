@@ -9,7 +9,7 @@ use Rattle.analog_bass_drum.specs.AnalogBassDrum.{step}
 use Rattle.analog_bass_drum.specs.Excitation.{excitation}
 use Rattle.analog_bass_drum.specs.declared.AnalogBassDrum.{AnalogBassDrum}
 use Rattle.analog_bass_drum.proofs.Rest.{Kept}
-use Rattle.analog_bass_drum.proofs.AnalogBassDrum.run.Given as goal
+use Rattle.analog_bass_drum.proofs.AnalogBassDrum.fill.Given as goal
 
 -- until the pulses are at rest
 abbrev pub invariant-loop-i : goal.invariant-loop-i

@@ -1,0 +1,26 @@
+-- A run asks what `render` asks, a strike a part of it. A strike writes nothing that the settings and the tuning read, and reads nothing that the tuning
+-- writes: it may come first, and where all is passed the block is the same.
+use mathlib.Core.Path.{◌≡◌, refl}
+use Prim.Native.Nat.{ℕ}
+use lib.ListN.{length}
+use lib.Ieee.{Float}
+use Rattle.refusal.specs.Refusal.{is_sample_rate, is_block_length, is_frequency, is_unit}
+use Rattle.refusal.proofs.Rows.{accepted}
+use Rattle.refusal.proofs.StrikeAndRun.{asked_again}
+use Rattle.synthetic_snare_drum.specs.SyntheticSnareDrum.{triggered, strike_refusal, strike, settings, tuned, render_refusal}
+use Rattle.synthetic_snare_drum.specs.StrikeThenRun.{StrikeThenRun}
+use Rattle.synthetic_snare_drum.specs.declared.Knobs.{Knobs}
+use Rattle.synthetic_snare_drum.proofs.Rate.{strike_keeps_rate}
+
+again : (hz : Float) (k : Knobs) (n : ℕ) → render_refusal hz k n ≡ 0 → strike_refusal hz k.accent k.decay ≡ 0
+unfolding strike_refusal render_refusal
+again hz k n = asked_again (is_sample_rate hz) (is_block_length n) (is_frequency k.f0) (is_unit k.accent) (is_unit k.fm_amount) (is_unit k.decay) _
+
+pub strike_then_run : StrikeThenRun
+unfolding triggered settings tuned
+strike_then_run v k = record {
+  triggered = λ out h. rw (again _ k (length out) h, h);
+  accepted = λ out h. rw (← strike_keeps_rate v k.accent k.decay) (accepted (strike v k.accent k.decay).number _ h).1;
+  untriggered = λ out h. refl;
+  stands = λ out n h. rw h;
+}

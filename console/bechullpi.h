@@ -357,6 +357,14 @@ bechullpi_analog_bass_drum_answered bechullpi_analog_bass_drum_render(
     float *out, size_t out_length
 );
 
+// Refused by 4.
+bechullpi_analog_bass_drum_answered bechullpi_analog_bass_drum_strike(bechullpi_analog_bass_drum voice, float accent);
+
+// Refused by 2, 3 and 5.
+bechullpi_analog_bass_drum_answered bechullpi_analog_bass_drum_run(
+    bechullpi_analog_bass_drum voice, bechullpi_analog_bass_drum_knobs knobs, float *out, size_t out_length
+);
+
 // -------------------------------------------------------------------------------------------------------------------------------
 // The 808 snare drum.
 
@@ -399,6 +407,14 @@ bechullpi_analog_snare_drum_answered bechullpi_analog_snare_drum_init(bechullpi_
 bechullpi_analog_snare_drum_answered bechullpi_analog_snare_drum_render(
     bechullpi_analog_snare_drum voice, bool trigger, float accent, bechullpi_analog_snare_drum_knobs knobs,
     float *out, size_t out_length
+);
+
+// Refused by 4.
+bechullpi_analog_snare_drum_answered bechullpi_analog_snare_drum_strike(bechullpi_analog_snare_drum voice, float accent);
+
+// Refused by 2, 3 and 5.
+bechullpi_analog_snare_drum_answered bechullpi_analog_snare_drum_run(
+    bechullpi_analog_snare_drum voice, bechullpi_analog_snare_drum_knobs knobs, float *out, size_t out_length
 );
 
 // -------------------------------------------------------------------------------------------------------------------------------
@@ -454,6 +470,16 @@ bechullpi_synthetic_snare_drum_answered bechullpi_synthetic_snare_drum_init(
 // Refused by 1, of the rate that the voice stores, 2, 3, 4 and 5.
 bechullpi_synthetic_snare_drum_answered bechullpi_synthetic_snare_drum_render(
     bechullpi_synthetic_snare_drum voice, bool trigger, bechullpi_synthetic_snare_drum_knobs knobs, float *out, size_t out_length
+);
+
+// Refused by 1, of the rate that the voice stores, 4 and 5.
+bechullpi_synthetic_snare_drum_answered bechullpi_synthetic_snare_drum_strike(
+    bechullpi_synthetic_snare_drum voice, float accent, float decay
+);
+
+// Refused by 1, of the rate that the voice stores, 2, 3, 4 and 5.
+bechullpi_synthetic_snare_drum_answered bechullpi_synthetic_snare_drum_run(
+    bechullpi_synthetic_snare_drum voice, bechullpi_synthetic_snare_drum_knobs knobs, float *out, size_t out_length
 );
 
 // -------------------------------------------------------------------------------------------------------------------------------
@@ -514,6 +540,14 @@ bechullpi_hihat_answered bechullpi_hihat_init(bechullpi_hihat voice, float sampl
 // Refused by 1, of the rate that the voice stores, 2, 3, 4 and 5. The VCA is the swing one unless `linear` is set.
 bechullpi_hihat_answered bechullpi_hihat_render(
     bechullpi_hihat voice, bool trigger, bool linear, bechullpi_hihat_knobs knobs, float *out, size_t out_length
+);
+
+// Refused by 1, of the rate that the voice stores, 4 and 5.
+bechullpi_hihat_answered bechullpi_hihat_strike(bechullpi_hihat voice, float accent, float decay);
+
+// Refused by 1, of the rate that the voice stores, 2, 3, 4 and 5. The VCA is the swing one unless `linear` is set.
+bechullpi_hihat_answered bechullpi_hihat_run(
+    bechullpi_hihat voice, bool linear, bechullpi_hihat_knobs knobs, float *out, size_t out_length
 );
 
 bechullpi_square_noise bechullpi_hihat_square_noise_zero(void);

@@ -161,18 +161,14 @@ render self trigger accent k out =
 abbrev pub strike : AnalogBassDrum → Float → Call AnalogBassDrum
 strike self accent = call (ask (is_unit accent) 4 0) (triggered self accent) [] self []
 
+unfoldable pub knobs_refusal : Knobs → ℕ
+knobs_refusal k = ask (is_unit k.tone) 5 (ask (is_bass_decay k.decay) 5 (ask (is_unit k.attack_fm_amount) 5 (ask (is_unit k.self_fm_amount) 5 0)))
+
 unfoldable pub run_refusal : Knobs → ℕ → ℕ
-run_refusal k samples =
-    ask (is_block_length samples) 2
-    (ask (is_frequency k.f0) 3
-    (ask (is_unit k.tone) 5
-    (ask (is_bass_decay k.decay) 5
-    (ask (is_unit k.attack_fm_amount) 5
-    (ask (is_unit k.self_fm_amount) 5 0)))))
+run_refusal k samples = ask (is_block_length samples) 2 (ask (is_frequency k.f0) 3 (knobs_refusal k))
 
 abbrev pub run : AnalogBassDrum → Knobs → List Float → Call AnalogBassDrum
 run self k out =
     let turn = step (settings k) in
     let n = length out in
-    let voice = self in
-    call (run_refusal k n) (after turn n voice) (samples turn n voice) self out
+    call (run_refusal k n) (after turn n self) (samples turn n self) self out

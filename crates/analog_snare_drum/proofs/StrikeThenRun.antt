@@ -6,14 +6,14 @@ use lib.Ieee.{Float}
 use Rattle.refusal.specs.Refusal.{ask, is_block_length, is_frequency, is_unit}
 use Rattle.refusal.proofs.Rows.{accepted}
 use Rattle.refusal.proofs.StrikeAndRun.{asked_in_two}
-use Rattle.analog_snare_drum.specs.AnalogSnareDrum.{run_refusal, render_refusal}
+use Rattle.analog_snare_drum.specs.AnalogSnareDrum.{knobs_refusal, run_refusal, render_refusal}
 use Rattle.analog_snare_drum.specs.StrikeThenRun.{StrikeThenRun}
 use Rattle.analog_snare_drum.specs.declared.Knobs.{Knobs}
 
 questions : (accent : Float) (k : Knobs) (n : ℕ)
     → let parts = (ask (is_unit accent) 4 0 ≡ 0) × (run_refusal k n ≡ 0) in
     (render_refusal accent k n ≡ 0 → parts) × (parts → render_refusal accent k n ≡ 0)
-unfolding render_refusal run_refusal
+unfolding knobs_refusal render_refusal run_refusal
 questions accent k n = asked_in_two (is_block_length n) (is_frequency k.f0) (is_unit accent) _
 
 pub strike_then_run : StrikeThenRun

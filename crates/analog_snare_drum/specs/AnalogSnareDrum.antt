@@ -206,17 +206,15 @@ render self trigger accent k out =
 abbrev pub strike : AnalogSnareDrum → Float → Call AnalogSnareDrum
 strike self accent = call (ask (is_unit accent) 4 0) (triggered self accent) [] self []
 
+unfoldable pub knobs_refusal : Knobs → ℕ
+knobs_refusal k = ask (is_unit k.tone) 5 (ask (is_unit k.decay) 5 (ask (is_unit k.snappy) 5 0))
+
 unfoldable pub run_refusal : Knobs → ℕ → ℕ
-run_refusal k samples =
-    ask (is_block_length samples) 2
-    (ask (is_frequency k.f0) 3
-    (ask (is_unit k.tone) 5
-    (ask (is_unit k.decay) 5
-    (ask (is_unit k.snappy) 5 0))))
+run_refusal k samples = ask (is_block_length samples) 2 (ask (is_frequency k.f0) 3 (knobs_refusal k))
 
 abbrev pub run : AnalogSnareDrum → Knobs → List Float → Call AnalogSnareDrum
 run self k out =
     let b = settings k in
     let n = length out in
-    let voice = tuned b (self) in
+    let voice = tuned b self in
     call (run_refusal k n) (after (step b) n voice) (samples (step b) n voice) self out

@@ -61,6 +61,42 @@ pub extern "C" fn bechullpi_hihat_render(
     }
 }
 
+// Refused by 1, of the rate that the voice stores, 4 and 5.
+#[unsafe(no_mangle)]
+pub extern "C" fn bechullpi_hihat_strike(voice: Hihat, accent: f32, decay: f32) -> HihatAnswered
+    ensures number { result.number ≡ (spec.strike voice accent decay).number }
+    ensures voice { result.voice ≡ (spec.strike voice accent decay).state }
+{
+    let a = voice.strike(accent, decay);
+    let answer = a.answer;
+    let voice = a.voice;
+    HihatAnswered {
+        number: answer.number(),
+        voice,
+    }
+}
+
+// Refused by 1, of the rate that the voice stores, 2, 3, 4 and 5. The VCA is the swing one unless `linear` is set.
+#[unsafe(no_mangle)]
+pub extern "C" fn bechullpi_hihat_run(
+    voice: Hihat,
+    linear: bool,
+    knobs: Knobs,
+    out: &mut [f32],
+) -> HihatAnswered
+    ensures number { result.number ≡ (spec.run voice (vca_type linear) knobs out.old).number }
+    ensures voice { result.voice ≡ (spec.run voice (vca_type linear) knobs out.old).state }
+    ensures out { out.new ≡ (spec.run voice (vca_type linear) knobs out.old).out }
+{
+    let a = voice.run(enums::vca_type(linear), knobs, out);
+    let answer = a.answer;
+    let voice = a.voice;
+    HihatAnswered {
+        number: answer.number(),
+        voice,
+    }
+}
+
 #[unsafe(no_mangle)]
 pub extern "C" fn bechullpi_hihat_square_noise_zero() -> SquareNoise
     ensures { result ≡ square.init }

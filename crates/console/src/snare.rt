@@ -59,3 +59,41 @@ pub extern "C" fn bechullpi_analog_snare_drum_render(
         voice,
     }
 }
+
+// Refused by 4.
+#[unsafe(no_mangle)]
+pub extern "C" fn bechullpi_analog_snare_drum_strike(
+    voice: AnalogSnareDrum,
+    accent: f32,
+) -> AnalogSnareDrumAnswered
+    ensures number { result.number ≡ (spec.strike voice accent).number }
+    ensures voice { result.voice ≡ (spec.strike voice accent).state }
+{
+    let a = voice.strike(accent);
+    let answer = a.answer;
+    let voice = a.voice;
+    AnalogSnareDrumAnswered {
+        number: answer.number(),
+        voice,
+    }
+}
+
+// Refused by 2, 3 and 5.
+#[unsafe(no_mangle)]
+pub extern "C" fn bechullpi_analog_snare_drum_run(
+    voice: AnalogSnareDrum,
+    knobs: Knobs,
+    out: &mut [f32],
+) -> AnalogSnareDrumAnswered
+    ensures number { result.number ≡ (spec.run voice knobs out.old).number }
+    ensures voice { result.voice ≡ (spec.run voice knobs out.old).state }
+    ensures out { out.new ≡ (spec.run voice knobs out.old).out }
+{
+    let a = voice.run(knobs, out);
+    let answer = a.answer;
+    let voice = a.voice;
+    AnalogSnareDrumAnswered {
+        number: answer.number(),
+        voice,
+    }
+}

@@ -58,3 +58,42 @@ pub extern "C" fn bechullpi_synthetic_snare_drum_render(
         voice,
     }
 }
+
+// Refused by 1, of the rate that the voice stores, 4 and 5.
+#[unsafe(no_mangle)]
+pub extern "C" fn bechullpi_synthetic_snare_drum_strike(
+    voice: SyntheticSnareDrum,
+    accent: f32,
+    decay: f32,
+) -> SyntheticSnareDrumAnswered
+    ensures number { result.number ≡ (spec.strike voice accent decay).number }
+    ensures voice { result.voice ≡ (spec.strike voice accent decay).state }
+{
+    let a = voice.strike(accent, decay);
+    let answer = a.answer;
+    let voice = a.voice;
+    SyntheticSnareDrumAnswered {
+        number: answer.number(),
+        voice,
+    }
+}
+
+// Refused by 1, of the rate that the voice stores, 2, 3, 4 and 5.
+#[unsafe(no_mangle)]
+pub extern "C" fn bechullpi_synthetic_snare_drum_run(
+    voice: SyntheticSnareDrum,
+    knobs: Knobs,
+    out: &mut [f32],
+) -> SyntheticSnareDrumAnswered
+    ensures number { result.number ≡ (spec.run voice knobs out.old).number }
+    ensures voice { result.voice ≡ (spec.run voice knobs out.old).state }
+    ensures out { out.new ≡ (spec.run voice knobs out.old).out }
+{
+    let a = voice.run(knobs, out);
+    let answer = a.answer;
+    let voice = a.voice;
+    SyntheticSnareDrumAnswered {
+        number: answer.number(),
+        voice,
+    }
+}

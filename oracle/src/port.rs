@@ -61,6 +61,22 @@ pub fn hihat_render(voice: Hihat, [trigger, linear]: [bool; 2], knobs: HihatKnob
     unsafe { bechullpi_hihat_render(voice, trigger, linear, knobs, out.as_mut_ptr(), out.len()) }
 }
 
+pub fn bass_run(voice: AnalogBassDrum, knobs: AnalogBassDrumKnobs, out: &mut [f32]) -> AnalogBassDrumAnswered {
+    unsafe { bechullpi_analog_bass_drum_run(voice, knobs, out.as_mut_ptr(), out.len()) }
+}
+
+pub fn snare_run(voice: AnalogSnareDrum, knobs: AnalogSnareDrumKnobs, out: &mut [f32]) -> AnalogSnareDrumAnswered {
+    unsafe { bechullpi_analog_snare_drum_run(voice, knobs, out.as_mut_ptr(), out.len()) }
+}
+
+pub fn synthetic_snare_run(voice: SyntheticSnareDrum, knobs: SyntheticSnareDrumKnobs, out: &mut [f32]) -> SyntheticSnareDrumAnswered {
+    unsafe { bechullpi_synthetic_snare_drum_run(voice, knobs, out.as_mut_ptr(), out.len()) }
+}
+
+pub fn hihat_run(voice: Hihat, linear: bool, knobs: HihatKnobs, out: &mut [f32]) -> HihatAnswered {
+    unsafe { bechullpi_hihat_run(voice, linear, knobs, out.as_mut_ptr(), out.len()) }
+}
+
 /// The records that calls are played on.
 #[derive(Clone, Copy)]
 pub struct Records {
@@ -170,6 +186,66 @@ impl Records {
             _ => {
                 let knobs = hihat_knobs([sustain, row.flag(RESONANCE), row.flag(TWO_STAGE)], row.knobs);
                 let a = hihat_render(self.h, [trigger, row.flag(LINEAR)], knobs, out);
+                self.h = a.voice;
+                a.number
+            }
+        }
+    }
+
+    /// The call of a row that renders in two: a strike, where it is triggered, and a run. The first refusal answers.
+    pub fn strike_and_run(&mut self, row: &Row, out: &mut [f32]) -> Played {
+        let struck = if row.flag(TRIGGER) { self.strike(row) } else { 0 };
+        let refusal = if struck == 0 { self.run(row, out) } else { struck };
+        self.left(row.voice, refusal)
+    }
+
+    fn strike(&mut self, row: &Row) -> u32 {
+        let [accent, _, _, decay, ..] = row.knobs;
+        match row.voice {
+            'b' => {
+                let a = bechullpi_analog_bass_drum_strike(self.b, accent);
+                self.b = a.voice;
+                a.number
+            }
+            's' => {
+                let a = bechullpi_analog_snare_drum_strike(self.s, accent);
+                self.s = a.voice;
+                a.number
+            }
+            'y' => {
+                let a = bechullpi_synthetic_snare_drum_strike(self.y, accent, decay);
+                self.y = a.voice;
+                a.number
+            }
+            _ => {
+                let a = bechullpi_hihat_strike(self.h, accent, decay);
+                self.h = a.voice;
+                a.number
+            }
+        }
+    }
+
+    fn run(&mut self, row: &Row, out: &mut [f32]) -> u32 {
+        let sustain = row.flag(SUSTAIN);
+        match row.voice {
+            'b' => {
+                let a = bass_run(self.b, bass_knobs(row.knobs), out);
+                self.b = a.voice;
+                a.number
+            }
+            's' => {
+                let a = snare_run(self.s, snare_knobs(row.knobs), out);
+                self.s = a.voice;
+                a.number
+            }
+            'y' => {
+                let a = synthetic_snare_run(self.y, synthetic_snare_knobs(sustain, row.knobs), out);
+                self.y = a.voice;
+                a.number
+            }
+            _ => {
+                let knobs = hihat_knobs([sustain, row.flag(RESONANCE), row.flag(TWO_STAGE)], row.knobs);
+                let a = hihat_run(self.h, row.flag(LINEAR), knobs, out);
                 self.h = a.voice;
                 a.number
             }

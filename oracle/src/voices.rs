@@ -87,6 +87,7 @@ fn compare_voice(voice: char, scripts: u32) -> u64 {
     let (mut calls, mut refused, mut samples, mut differ) = (0u64, 0u64, 0u64, 0u64);
     for row in (0..scripts).flat_map(|_| script(&mut r, voice, 16384)) {
         let want = outcome(&row, |out| rust.play(&row, out));
+        let mut in_two = port;
         let got = outcome(&row, |out| port.play(&row, out));
         calls += 1;
         refused += u64::from(want.played.refusal != 0);
@@ -96,6 +97,10 @@ fn compare_voice(voice: char, scripts: u32) -> u64 {
             if differ <= 5 {
                 println!("call {row}\nRust {:?}\nport {:?}", want.played, got.played);
             }
+        }
+        if want.played.refusal == 0 && matches!(row.kind, Kind::Render) && want != outcome(&row, |out| in_two.strike_and_run(&row, out)) {
+            differ += 1;
+            println!("call {row}: a strike and a run leave something else");
         }
     }
     println!("voice {voice}: {calls} calls, {refused} of them refused, {samples} samples: {differ} differ");

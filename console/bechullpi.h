@@ -13,10 +13,21 @@
 // run at once. A voice starts from its zero record, then `init`, then `render`, block after block. A record may hold any patterns, but a
 // bool is 0 or 1.
 //
+// STRIKES
+// `strike` and `run` are `render` as two calls. `strike` takes accent, and for a synthetic snare or a hi-hat decay, and does what a
+// trigger does: it renders nothing, and leaves filters and noise alone. `run` renders a block and triggers nothing. A strike and then a
+// run with the same knobs are a triggered `render`, and a run alone is one without a trigger. This is proved. The knobs of a run need not
+// be those of the strike, and of two strikes with no run between them the last counts.
+//
+// THREADS
+// The stick's thread knows when, the sound's thread knows how many samples. So the stick does not call `strike` on a record that the
+// sound loop has: it queues accent and decay. The sound loop takes them at the start of its next block, strikes, and then runs.
+//
 // ANSWERS
 // A call that is not fit answers a number other than 0, and then the record and the buffer are as they were. Ask for it after every call.
-// The first question that is not passed gives the number: a voice asks 1 to 5 in this order, a sheet 7, then of each cue 10, 8, 9, 3, 4,
-// 5, and 11 at the end. A NaN is no number, and -0.0 is 0.0.
+// If a run is refused, the strike before it stands. The first question that is not passed gives the number: a voice asks 1 to 5 in this
+// order, a sheet 7, then of each cue 10, 8, 9, 3, 4, 5, and 11 at the end. A NaN is no number, and -0.0 is 0.0. A strike asks 4, and for a
+// synthetic snare or a hi-hat 1, 4 and 5, of decay; a run of the analog voices, which takes no accent, does not ask 4.
 //      1  the sample rate is not a number from 16000.0 to 96000.0
 //      2  the block has more than 16,384 samples
 //      3  f0, in cycles a sample, is not a number from 2^-20 to 0.5

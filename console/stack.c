@@ -90,15 +90,23 @@ static size_t sheet_bytes;
     CALL(analog_bass_drum_zero, ()) \
     CALL(analog_bass_drum_init, (bass, 48000.0f)) \
     CALL(analog_bass_drum_render, (bass, trigger, 0.9f, bass_knobs, buffer, PLACES)) \
+    CALL(analog_bass_drum_strike, (bass, 0.9f)) \
+    CALL(analog_bass_drum_run, (bass, bass_knobs, buffer, PLACES)) \
     CALL(analog_snare_drum_zero, ()) \
     CALL(analog_snare_drum_init, (snare, 48000.0f)) \
     CALL(analog_snare_drum_render, (snare, trigger, 0.9f, snare_knobs, buffer, PLACES)) \
+    CALL(analog_snare_drum_strike, (snare, 0.9f)) \
+    CALL(analog_snare_drum_run, (snare, snare_knobs, buffer, PLACES)) \
     CALL(synthetic_snare_drum_zero, ()) \
     CALL(synthetic_snare_drum_init, (synthetic_snare, 48000.0f)) \
     CALL(synthetic_snare_drum_render, (synthetic_snare, trigger, synthetic_snare_knobs, buffer, PLACES)) \
+    CALL(synthetic_snare_drum_strike, (synthetic_snare, 0.9f, 0.5f)) \
+    CALL(synthetic_snare_drum_run, (synthetic_snare, synthetic_snare_knobs, buffer, PLACES)) \
     CALL(hihat_zero, ()) \
     CALL(hihat_init, (hihat, 48000.0f)) \
     CALL(hihat_render, (hihat, trigger, linear, hihat_knobs, buffer, PLACES)) \
+    CALL(hihat_strike, (hihat, 0.9f, 0.5f)) \
+    CALL(hihat_run, (hihat, linear, hihat_knobs, buffer, PLACES)) \
     CALL(hihat_square_noise_zero, ()) \
     CALL(hihat_square_noise_init, (square_noise)) \
     CALL(hihat_square_noise_render, (square_noise, 0.01f, buffer, PLACES))

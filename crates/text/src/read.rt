@@ -56,7 +56,7 @@ pub fn line_end(text: &[u8], at: usize) -> usize
 // The end of the field that starts at `at`: the place of the next comma, or the line's end.
 pub fn field_end(line: &[u8], at: usize) -> usize
     ensures value { result ≡ Read.field_end at line.now }
-    ensures lower_bound { (at ≤ result) × (result ≤ max at (length line.now)) }
+    ensures within { (at ≤ result) × (result ≤ max at (length line.now)) }
 {
     find(line, at, b',')
 }

@@ -29,7 +29,7 @@ one_less : (n : ℕ) → n + 1 - 1 ≡ n
 one_less n = omega arith
 
 pub overflow_add-result : goal.overflow_add-result
-overflow_add-result c = omega (arith, c.field_end.ensures.lower_bound.1, near c.args.line.now c.args.k)
+overflow_add-result c = omega (arith, c.field_end.ensures.within.1, near c.args.line.now c.args.k)
 
 pub returns : goal.returns
 returns c =
@@ -37,9 +37,9 @@ returns c =
     let starts = c.requires.1 in
     let end = c.field_end.ensures in
     record {
-      after = omega (arith, end.lower_bound.0);
-      within = omega (arith, end.lower_bound.1);
-      near = omega (arith, end.lower_bound.1, near a.line.now a.k);
+      after = omega (arith, end.within.0);
+      within = omega (arith, end.within.1);
+      near = omega (arith, end.within.1, near a.line.now a.k);
       next = rw (add-one a.k) (next_starts _ _ starts end.value);
       here = ap (λ (n : ℕ). take (n - a.at) (drop a.at a.line.now)) (one_less _) ∙ field-here _ _ starts end.value;
       last = one_more c.field_end.result (length a.line.now) ∙ last _ _ starts end.value ∙ rw (add-one a.k);

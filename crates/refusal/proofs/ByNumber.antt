@@ -45,11 +45,11 @@ module _ (a : Answer) (n : ℕ) (known : answer_number a ≡ n) where
 
 -- a call of this answer that leaves v, where the new value is expected: v is that value where it is accepted, and the old one where it is refused
 module _ {A : Type 0} (new old : A) (a : Answer) (n : ℕ) (known : answer_number a ≡ n) where
-  pub arm-accepted : a ≡ Accepted → (v : A) → v ≡ new → (answer_number a ≡ n) × (v ≡ unless_refused n new old)
-  arm-accepted e v made = (known, rw (zero_of a n known e) made)
+  pub arm_accepted : a ≡ Accepted → (v : A) → v ≡ new → (answer_number a ≡ n) × (v ≡ unless_refused n new old)
+  arm_accepted e v made = (known, rw (zero_of a n known e) made)
 
-  pub arm-refused : (r : Refusal) → a ≡ Refused r → (answer_number a ≡ n) × (old ≡ unless_refused n new old)
-  arm-refused r e = (known, rw (suc_of a n known r e))
+  pub arm_refused : (r : Refusal) → a ≡ Refused r → (answer_number a ≡ n) × (old ≡ unless_refused n new old)
+  arm_refused r e = (known, rw (suc_of a n known r e))
 
 -- what the new value keeps of the old one, the call keeps
 pub call_keeps : {A B : Type 0} (f : A → B) (n : ℕ) (new old : A) → f new ≡ f old → f (unless_refused n new old) ≡ f old

@@ -1,11 +1,11 @@
 -- The answer decides what the call leaves.
-use Rattle.refusal.proofs.ByNumber.{arm-accepted, arm-refused}
+use Rattle.refusal.proofs.ByNumber.{arm_accepted, arm_refused}
 use Rattle.analog_bass_drum.proofs.AnalogBassDrum.strike.Goals as goal
 
 pub returns-in-Refused : goal.returns-in-Refused
-returns-in-Refused c = let p = arm-refused _ _ _ _ c.ask_accent-answer.ensures _ c.in-Refused.is in
+returns-in-Refused c = let p = arm_refused _ _ _ _ c.ask_accent-answer.ensures _ c.in-Refused.is in
     record { number = p.0; voice = p.1 }
 
 pub returns-in-Accepted : goal.returns-in-Accepted
-returns-in-Accepted c = let p = arm-accepted _ _ _ _ c.ask_accent-answer.ensures c.in-Accepted.is _ c.triggered-voice.ensures in
+returns-in-Accepted c = let p = arm_accepted _ _ _ _ c.ask_accent-answer.ensures c.in-Accepted.is _ c.triggered-voice.ensures in
     record { number = p.0; voice = p.1 }

@@ -240,3 +240,10 @@ module _ {Voice : Type 0} (p : Player Voice) (laws : Lawful p) where
                 ∙ ap (λ (k : ℕ). mixed out (solo head.length v (record { start = k; render = s.render } ∷ os))) from_is
                 ∙ rw (s.first, next-is) at g.to_add);
           }
+
+    -- the run of a cue lies in the buffers, by what the calls before it promise
+    pub in_buffers : {head : Head} {out₀ : List Float} {v : Voice} {t : Told Strike} {w : Walk} {out scratch : List Float}
+        → Passing head out₀ v t w out × (List.length scratch ≡ 16384) → {own : Bool} → own ≡ is_of p.letter t → own ≡ true
+        → (t' : Told Strike) (w' : Walk) → w'.head ≡ w.head → of_voice p.letter (left sheet w) ≡ from_here t' w'
+        → {run : Run} → run ≡ run_of p.letter head.length t t' → Fits run out scratch
+    in_buffers inv told own t' w' same next run = fits inv.0 (sym told ∙ own) t' w' same next run _ inv.1

@@ -8,41 +8,56 @@ use lib.Ieee.{round, of_bits, mul, to_unsigned}
 use Rattle.filter.specs.Svf as Svf
 use Rattle.hihat.specs.Hihat as Hihat
 use Rattle.cue_render.specs.Voices.{hihat}
-use Rattle.cue_render.proofs.Pass.{begins, fewer, fits, turn, ends_here}
+use Rattle.cue_render.proofs.Pass.{begins, fewer, in_buffers, turn, ends_here}
 use Rattle.cue_render.proofs.Voices.{hihat_lawful}
 use Rattle.cue_render.proofs.hi_hat.add_track.Goals as goal
 
 pub offset_bounds-out-from : goal.offset_bounds-out-from
-offset_bounds-out-from c = let f = fits hihat hihat_lawful _ c.loop-head.invariant.0 (sym c.is_of.ensures ∙ c.loop-head-test.true) _ _ c.next_cue-step.ensures.head c.next_cue-step.ensures.cues c.run_of-run.ensures _ c.loop-head.invariant.1 in search rules
+offset_bounds-out-from c =
+    let cue = c.next_cue-step.ensures in
+    let f = in_buffers hihat hihat_lawful _ c.loop-head.invariant c.is_of.ensures c.loop-head-test.true _ _ cue.head cue.cues c.run_of-run.ensures in
+    search rules
 
 pub slice_bounds-strike-count : goal.slice_bounds-strike-count
 slice_bounds-strike-count c =
-    let f = fits hihat hihat_lawful _ c.loop-head.invariant.0 (sym c.is_of.ensures ∙ c.loop-head-test.true) _ _ c.next_cue-step.ensures.head c.next_cue-step.ensures.cues c.run_of-run.ensures _ c.loop-head.invariant.1 in
+    let cue = c.next_cue-step.ensures in
+    let f = in_buffers hihat hihat_lawful _ c.loop-head.invariant c.is_of.ensures c.loop-head-test.true _ _ cue.head cue.cues c.run_of-run.ensures in
     f.rising
 
 pub slice_bounds-strike-start : goal.slice_bounds-strike-start
-slice_bounds-strike-start c = let f = fits hihat hihat_lawful _ c.loop-head.invariant.0 (sym c.is_of.ensures ∙ c.loop-head-test.true) _ _ c.next_cue-step.ensures.head c.next_cue-step.ensures.cues c.run_of-run.ensures _ c.loop-head.invariant.1 in search rules
+slice_bounds-strike-start c =
+    let cue = c.next_cue-step.ensures in
+    let f = in_buffers hihat hihat_lawful _ c.loop-head.invariant c.is_of.ensures c.loop-head-test.true _ _ cue.head cue.cues c.run_of-run.ensures in
+    search rules
 
 pub slice_bounds-strike-end : goal.slice_bounds-strike-end
-slice_bounds-strike-end c = let f = fits hihat hihat_lawful _ c.loop-head.invariant.0 (sym c.is_of.ensures ∙ c.loop-head-test.true) _ _ c.next_cue-step.ensures.head c.next_cue-step.ensures.cues c.run_of-run.ensures _ c.loop-head.invariant.1 in search rules
+slice_bounds-strike-end c =
+    let cue = c.next_cue-step.ensures in
+    let f = in_buffers hihat hihat_lawful _ c.loop-head.invariant c.is_of.ensures c.loop-head-test.true _ _ cue.head cue.cues c.run_of-run.ensures in
+    search rules
 
 pub slice_bounds-strike-count-in-loop-head : goal.slice_bounds-strike-count-in-loop-head
 slice_bounds-strike-count-in-loop-head c =
-    let f = fits hihat hihat_lawful _ c.loop-head.invariant.0 (sym c.is_of.ensures ∙ c.loop-head-test.true) _ _ c.next_cue-step.ensures.head c.next_cue-step.ensures.cues c.run_of-run.ensures _ c.loop-head.invariant.1 in
+    let cue = c.next_cue-step.ensures in
+    let f = in_buffers hihat hihat_lawful _ c.loop-head.invariant c.is_of.ensures c.loop-head-test.true _ _ cue.head cue.cues c.run_of-run.ensures in
     f.rising
 
 pub slice_bounds-strike-end-in-loop-head : goal.slice_bounds-strike-end-in-loop-head
 slice_bounds-strike-end-in-loop-head c =
-    let f = fits hihat hihat_lawful _ c.loop-head.invariant.0 (sym c.is_of.ensures ∙ c.loop-head-test.true) _ _ c.next_cue-step.ensures.head c.next_cue-step.ensures.cues c.run_of-run.ensures _ c.loop-head.invariant.1 in
+    let cue = c.next_cue-step.ensures in
+    let f = in_buffers hihat hihat_lawful _ c.loop-head.invariant c.is_of.ensures c.loop-head-test.true _ _ cue.head cue.cues c.run_of-run.ensures in
     f.room
 
 pub slice_bounds-strike-length-in-loop-head : goal.slice_bounds-strike-length-in-loop-head
 slice_bounds-strike-length-in-loop-head c =
-    let f = fits hihat hihat_lawful _ c.loop-head.invariant.0 (sym c.is_of.ensures ∙ c.loop-head-test.true) _ _ c.next_cue-step.ensures.head c.next_cue-step.ensures.cues c.run_of-run.ensures _ c.loop-head.invariant.1 in
+    let cue = c.next_cue-step.ensures in
+    let f = in_buffers hihat hihat_lawful _ c.loop-head.invariant c.is_of.ensures c.loop-head-test.true _ _ cue.head cue.cues c.run_of-run.ensures in
     sym f.block
 
 pub strike-voice-requires : goal.strike-voice-requires
-strike-voice-requires c = let f = fits hihat hihat_lawful _ c.loop-head.invariant.0 (sym c.is_of.ensures ∙ c.loop-head-test.true) _ _ c.next_cue-step.ensures.head c.next_cue-step.ensures.cues c.run_of-run.ensures _ c.loop-head.invariant.1 in f.block ∙ sym f.part
+strike-voice-requires c =
+    let cue = c.next_cue-step.ensures in
+    let f = in_buffers hihat hihat_lawful _ c.loop-head.invariant c.is_of.ensures c.loop-head-test.true _ _ cue.head cue.cues c.run_of-run.ensures in f.block ∙ sym f.part
 
 pub shape_of-out : goal.shape_of-out
 shape_of-out c = c.loop-head.invariant.0.room ∙ sym c.requires.room
@@ -69,7 +84,7 @@ pub loop-head-preserved : goal.loop-head-preserved
 loop-head-preserved c =
     let cue = c.next_cue-step.ensures in
     let inv = c.loop-head.invariant in
-    let f = fits hihat hihat_lawful _ c.loop-head.invariant.0 (sym c.is_of.ensures ∙ c.loop-head-test.true) _ _ c.next_cue-step.ensures.head c.next_cue-step.ensures.cues c.run_of-run.ensures _ c.loop-head.invariant.1 in (
+    let f = in_buffers hihat hihat_lawful _ c.loop-head.invariant c.is_of.ensures c.loop-head-test.true _ _ cue.head cue.cues c.run_of-run.ensures in (
       turn hihat hihat_lawful _ inv.0 (sym c.is_of.ensures ∙ c.loop-head-test.true) _ _ cue.head cue.cues c.run_of-run.ensures _ f.block
           c.strike-voice.ensures.voice c.strike-voice.ensures.out (rw (Post-is _ _ _ f.rising)),
       simp (length-append, length-drop) (omega (arith, c.strike-voice.auto.scratch, f.block, f.room, inv.1)),

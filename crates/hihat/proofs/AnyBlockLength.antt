@@ -38,7 +38,7 @@ record Tuned (b : Settings) (hz : Float) (v : Hihat) : Type 0 where
   again : tuned b v ≡ v
   rate : v.sample_rate ≡ hz
 
-begins : (b : Settings) (v : Hihat) (trigger : Bool) (k : Knobs) → Tuned b v.sample_rate (tuned b (cond trigger (triggered v k) v))
+begins : (b : Settings) (v : Hihat) (trigger : Bool) (k : Knobs) → Tuned b v.sample_rate (tuned b (cond trigger (triggered v k.accent k.decay) v))
 unfolding triggered set_coloration set_hpf Svf.set_g_q Svf.set_g_r
 begins b v true k = record { again = refl; rate = refl }
 begins b v false k = record { again = refl; rate = refl }
@@ -62,7 +62,7 @@ any_block_length v trigger kind k unsustained a b h =
     let second = shorter_at_rate v.sample_rate n _ h (length b) (omega (arith, length-append a b)) in
     let q = settings v kind k n in
     let t = scanned_holds (step q) (Tuned q v.sample_rate) (stays q _) _ a (begins q v trigger k) in
-    let left = scanned (step q) (tuned q (cond trigger (triggered v k) v)) a in
+    let left = scanned (step q) (tuned q (cond trigger (triggered v k.accent k.decay) v)) a in
     rw (
       h,
       first,

@@ -18,7 +18,7 @@ unfolding step spec.metallic spec.set_coloration spec.colored spec.clocked spec.
 passes_keep b p = rw (five_passes b p, scanned_keeps (step b) (λ v. v.sample_rate) (λ v x. refl))
 
 kept : (v : Hihat) (k : Knobs) (b : Settings) (out : List Float) (n : ℕ) (t : Bool)
-    → (unless_refused n (spec.passes b (record { state = cond t (spec.triggered v k) v; out = out })).state v).sample_rate
+    → (unless_refused n (spec.passes b (record { state = cond t (spec.triggered v k.accent k.decay) v; out = out })).state v).sample_rate
     ≡ v.sample_rate
 unfolding spec.triggered
 kept v k b out zero true = passes_keep b _
@@ -30,5 +30,5 @@ pub rate_kept : (v : Hihat) (trigger : Bool) (kind : VcaType) (k : Knobs) (out :
 rate_kept v trigger kind k out = kept v k _ out (spec.render_refusal v.sample_rate k (length out)) trigger
 
 pub strike_keeps_rate : (v : Hihat) (accent decay : Float) → (spec.strike v accent decay).state.sample_rate ≡ v.sample_rate
-unfolding spec.struck
+unfolding spec.triggered
 strike_keeps_rate v accent decay = call_keeps (λ (w : Hihat). w.sample_rate) (spec.strike_refusal v.sample_rate accent decay) _ v refl

@@ -4,7 +4,7 @@ use lib.Ieee.{Float}
 use Rattle.refusal.specs.Refusal.{is_sample_rate, is_block_length, is_frequency, is_unit}
 use Rattle.refusal.proofs.Rows.{accepted}
 use Rattle.refusal.proofs.StrikeAndRun.{asked_again}
-use Rattle.hihat.specs.Hihat.{triggered, struck, strike_refusal, strike, settings, render_refusal}
+use Rattle.hihat.specs.Hihat.{triggered, strike_refusal, strike, settings, render_refusal}
 use Rattle.hihat.specs.StrikeThenRun.{StrikeThenRun}
 use Rattle.hihat.specs.declared.Knobs.{Knobs}
 use Rattle.hihat.proofs.Rate.{strike_keeps_rate}
@@ -14,7 +14,7 @@ unfolding strike_refusal render_refusal
 again hz k n = asked_again (is_sample_rate hz) (is_block_length n) (is_frequency k.f0) (is_unit k.accent) (is_unit k.tone) (is_unit k.decay) _
 
 pub strike_then_run : StrikeThenRun
-unfolding triggered struck settings
+unfolding triggered settings
 strike_then_run v kind k = record {
   triggered = λ out h. rw (again _ k (length out) h, h);
   accepted = λ out h. rw (← strike_keeps_rate v k.accent k.decay) (accepted (strike v k.accent k.decay).number _ h).1;

@@ -114,9 +114,9 @@ parts self square_noise noise_coloration_svf hpf =
       noise = self.noise;
     }
 
-unfoldable pub triggered : Hihat → Knobs → Hihat
-triggered self k =
-    let envelope = (decimal 15 1 ⊕ decimal 5 1 ⊗ (decimal 1 0 ⊖ k.decay)) ⊗ (decimal 3 1 ⊕ decimal 7 1 ⊗ k.accent) in
+unfoldable pub triggered : Hihat → Float → Float → Hihat
+triggered self accent decay =
+    let envelope = (decimal 15 1 ⊕ decimal 5 1 ⊗ (decimal 1 0 ⊖ decay)) ⊗ (decimal 3 1 ⊕ decimal 7 1 ⊗ accent) in
     gains self envelope self.sustain_gain
 
 -- ---- the passes over the block, each by a sample: b is what stays the same
@@ -214,16 +214,11 @@ abbrev pub render : Hihat → Bool → VcaType → Knobs → List Float → Call
 render self trigger vca_type k out =
     let b = settings self vca_type k (length out) in
     -- `if trigger {`
-    let begun = cond trigger (triggered self k) self in
+    let begun = cond trigger (triggered self k.accent k.decay) self in
     let p = passes b (record { state = begun; out = out }) in
     call (render_refusal self.sample_rate k (length out)) p.state p.out self out
 
 -- ---- `render` as two calls (specs/StrikeThenRun.antt): a strike is what stands under `if trigger {`, a run is all else
-
-unfoldable pub struck : Hihat → Float → Float → Hihat
-struck self accent decay =
-    let envelope = (decimal 15 1 ⊕ decimal 5 1 ⊗ (decimal 1 0 ⊖ decay)) ⊗ (decimal 3 1 ⊕ decimal 7 1 ⊗ accent) in
-    gains self envelope self.sustain_gain
 
 unfoldable pub strike_refusal : Float → Float → Float → ℕ
 strike_refusal sample_rate accent decay =
@@ -232,7 +227,7 @@ strike_refusal sample_rate accent decay =
     (ask (is_unit decay) 5 0))
 
 abbrev pub strike : Hihat → Float → Float → Call Hihat
-strike self accent decay = call (strike_refusal self.sample_rate accent decay) (struck self accent decay) [] self []
+strike self accent decay = call (strike_refusal self.sample_rate accent decay) (triggered self accent decay) [] self []
 
 -- it asks what `render` asks, accent too
 abbrev pub run : Hihat → VcaType → Knobs → List Float → Call Hihat

@@ -5,7 +5,7 @@
 mod square_noise; // square_noise.rt: the metallic noise
 mod turn; // turn.rt: one sample through the passes
 
-ghost use Rattle.std.specs.Prelude.{◌≡◌, ◌≤◌, if◌then◌else◌, Float};
+ghost use Rattle.std.specs.Prelude.{◌≡◌, ◌≤◌, cond, if◌then◌else◌, Float};
 ghost use Rattle.refusal.specs.Refusal.{answer_number};
 ghost use Rattle.block.specs.Block.{scan, scanned};
 ghost use Rattle.ieee754.specs.Single.{◌⊕◌, ◌⊗◌, decimal};
@@ -138,7 +138,7 @@ impl Hihat {
             Answer::Accepted => {
                 let settings = knobs.settings(self, vca_type, out.len());
                 let voice = self
-                    .triggered(trigger, knobs)
+                    .triggered(trigger, knobs.accent, knobs.decay)
                     .tuned(settings)
                     .fill(settings, out);
                 Answered { answer, voice }
@@ -158,7 +158,7 @@ impl Hihat {
                 voice: self,
             },
             Answer::Accepted => {
-                let voice = self.struck(accent, decay);
+                let voice = self.triggered(true, accent, decay);
                 Answered { answer, voice }
             }
         }
@@ -172,20 +172,14 @@ impl Hihat {
         self.render(false, vca_type, knobs, out)
     }
 
-    fn struck(self, accent: f32, decay: f32) -> Self
-        ensures { result ≡ spec.struck self accent decay }
-    {
-        Hihat {
-            envelope: (1.5 + 0.5 * (1.0 - decay)) * (0.3 + 0.7 * accent),
-            ..self
-        }
-    }
-
-    fn triggered(self, trigger: bool, knobs: Knobs) -> Self
-        ensures { result ≡ (if trigger then spec.triggered self knobs else self) }
+    fn triggered(self, trigger: bool, accent: f32, decay: f32) -> Self
+        ensures { result ≡ cond trigger (spec.triggered self accent decay) self }
     {
         if trigger {
-            self.struck(knobs.accent, knobs.decay)
+            Hihat {
+                envelope: (1.5 + 0.5 * (1.0 - decay)) * (0.3 + 0.7 * accent),
+                ..self
+            }
         } else {
             self
         }

@@ -7,5 +7,5 @@ returns-in-Refused c = let p = arm_refused _ _ _ _ c.ask_strike-answer.ensures _
     record { number = p.0; voice = p.1 }
 
 pub returns-in-Accepted : goal.returns-in-Accepted
-returns-in-Accepted c = let p = arm_accepted _ _ _ _ c.ask_strike-answer.ensures c.in-Accepted.is _ c.struck-voice.ensures in
+returns-in-Accepted c = let p = arm_accepted _ _ _ _ c.ask_strike-answer.ensures c.in-Accepted.is _ c.triggered-voice.ensures in
     record { number = p.0; voice = p.1 }

@@ -1,10 +1,11 @@
 -- The definition's two arms, by the trigger.
-use Rattle.hihat.specs.Hihat.{triggered, struck}
+use lib.Ieee.{round, of_bits}
+use Rattle.hihat.specs.Hihat.{triggered}
 use Rattle.hihat.proofs.Hihat.triggered.Goals as goal
 
 pub returns-then-trigger : goal.returns-then-trigger
-unfolding triggered struck
-returns-then-trigger c = rw (c.if-trigger.true, c.struck.ensures)
+unfolding triggered round of_bits
+returns-then-trigger c = rw c.if-trigger.true
 
 pub returns-else-trigger : goal.returns-else-trigger
 unfolding triggered

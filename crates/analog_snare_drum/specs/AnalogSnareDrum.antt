@@ -184,15 +184,19 @@ step b self =
       };
     }
 
+-- the questions of the other knobs
+unfoldable pub knobs_refusal : Knobs → ℕ
+knobs_refusal k =
+    ask (is_unit k.tone) 5
+    (ask (is_unit k.decay) 5
+    (ask (is_unit k.snappy) 5 0))
+
 -- the number of the first question that is not passed; 0 where all are
 unfoldable pub render_refusal : Float → Knobs → ℕ → ℕ
 render_refusal accent k samples =
     ask (is_block_length samples) 2
     (ask (is_frequency k.f0) 3
-    (ask (is_unit accent) 4
-    (ask (is_unit k.tone) 5
-    (ask (is_unit k.decay) 5
-    (ask (is_unit k.snappy) 5 0)))))
+    (ask (is_unit accent) 4 (knobs_refusal k)))
 
 abbrev pub render : AnalogSnareDrum → Bool → Float → Knobs → List Float → Call AnalogSnareDrum
 render self trigger accent k out =
@@ -205,9 +209,6 @@ render self trigger accent k out =
 
 abbrev pub strike : AnalogSnareDrum → Float → Call AnalogSnareDrum
 strike self accent = call (ask (is_unit accent) 4 0) (triggered self accent) [] self []
-
-unfoldable pub knobs_refusal : Knobs → ℕ
-knobs_refusal k = ask (is_unit k.tone) 5 (ask (is_unit k.decay) 5 (ask (is_unit k.snappy) 5 0))
 
 unfoldable pub run_refusal : Knobs → ℕ → ℕ
 run_refusal k samples = ask (is_block_length samples) 2 (ask (is_frequency k.f0) 3 (knobs_refusal k))

@@ -38,7 +38,7 @@ unfolding is_unit within le round
 zero_unit = refl
 
 bass_plays : (cue : Cue) → KnobsOf cue → PlaysAt (λ v. Unit {0}) (bass_cue cue)
-unfolding bass_cue AnalogBassDrum.render_refusal
+unfolding bass_cue AnalogBassDrum.render_refusal AnalogBassDrum.knobs_refusal
 bass_plays (Bass accent f0 tone decay attack_fm_amount) q = record {
   accepts = λ v ready trigger out short. rw (le-leb (length out) 16384 short, q.frequency, q.accent_in, q.a_in, q.decay_in, q.c_in, zero_unit);
   stays = λ v ready trigger out. tt;
@@ -63,7 +63,7 @@ bass_lawful =
 
 -- ---- s
 snare_plays : (cue : Cue) → KnobsOf cue → PlaysAt (λ v. Unit {0}) (snare_cue cue)
-unfolding snare_cue AnalogSnareDrum.render_refusal
+unfolding snare_cue AnalogSnareDrum.render_refusal AnalogSnareDrum.knobs_refusal
 snare_plays (Snare accent f0 tone decay snappy) q = record {
   accepts = λ v ready trigger out short. rw (le-leb (length out) 16384 short, q.frequency, q.accent_in, q.a_in, q.decay_in, q.c_in);
   stays = λ v ready trigger out. tt;

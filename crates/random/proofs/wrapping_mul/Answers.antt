@@ -13,4 +13,5 @@ halves a b =
     omega (arith, rw (div-add-mod' a (2 ^ 16), div-add-mod' b (2 ^ 16)) at (multiplied (a / 2 ^ 16) (a % 2 ^ 16) (b / 2 ^ 16) (b % 2 ^ 16)))
 
 pub returns : goal.returns
-returns c = let a = c.args in cc (halves a.a a.b)
+returns c = rw (c.wrapping_add_u32.ensures.value, c.wrapping_add_u32-a_times_b_low.ensures.value, c.mul16.ensures, c.mul16-2.ensures, c.mul16-3.ensures)
+    (halves c.args.a c.args.b)

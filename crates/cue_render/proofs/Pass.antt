@@ -33,7 +33,6 @@ pub record Fits (run : Run) (out scratch : List Float) : Type 0 where
   pub rising : run.from ≤ run.to
   pub inside : run.to ≤ List.length out
   pub room : run.to - run.from ≤ List.length scratch
-  pub part : List.length (take (run.to - run.from) (drop run.from out)) ≡ run.to - run.from
   pub block : List.length (take (run.to - run.from) scratch) ≡ run.to - run.from
 
 module _ {Voice : Type 0} (p : Player Voice) (laws : Lawful p) where
@@ -211,7 +210,6 @@ module _ {Voice : Type 0} (p : Player Voice) (laws : Lawful p) where
             rising = b.0;
             inside = omega (arith, b.1, g.room);
             room = omega (arith, b.1, g.short, enough);
-            part = part_length out from to b.0 (omega (arith, b.1, g.room));
             block = length-take-le (to - from) scratch (omega (arith, b.1, g.short, enough));
           }
 

@@ -28,6 +28,8 @@ pub(crate) fn add_track(sheet: &[u8], head: Head, out: &mut [f32], scratch: &mut
         let run = run::run_of(line, next, b'b', head.length);
         let from = run.from;
         let to = run.to;
+        // What the two slices below need (`in_buffers` of proofs/Pass.antt).
+        prove!(from <= to && to <= out.len() && to - from <= scratch.len());
         voice = strike(voice, line, &mut out[from..to], &mut scratch[..to - from]);
         line = next;
     }

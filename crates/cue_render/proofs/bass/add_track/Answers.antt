@@ -12,52 +12,11 @@ use Rattle.cue_render.proofs.Pass.{begins, fewer, in_buffers, turn, ends_here}
 use Rattle.cue_render.proofs.Voices.{bass_lawful}
 use Rattle.cue_render.proofs.bass.add_track.Goals as goal
 
-pub offset_bounds-out-from : goal.offset_bounds-out-from
-offset_bounds-out-from c =
+pub prove-unreachable-requires : goal.prove-unreachable-requires
+prove-unreachable-requires c =
     let cue = c.next_cue-step.ensures in
     let f = in_buffers bass bass_lawful _ c.loop-head.invariant c.is_of.ensures c.loop-head-test.true _ _ cue.head cue.cues c.run_of-run.ensures in
     search rules
-
-pub slice_bounds-strike-count : goal.slice_bounds-strike-count
-slice_bounds-strike-count c =
-    let cue = c.next_cue-step.ensures in
-    let f = in_buffers bass bass_lawful _ c.loop-head.invariant c.is_of.ensures c.loop-head-test.true _ _ cue.head cue.cues c.run_of-run.ensures in
-    f.rising
-
-pub slice_bounds-strike-start : goal.slice_bounds-strike-start
-slice_bounds-strike-start c =
-    let cue = c.next_cue-step.ensures in
-    let f = in_buffers bass bass_lawful _ c.loop-head.invariant c.is_of.ensures c.loop-head-test.true _ _ cue.head cue.cues c.run_of-run.ensures in
-    search rules
-
-pub slice_bounds-strike-end : goal.slice_bounds-strike-end
-slice_bounds-strike-end c =
-    let cue = c.next_cue-step.ensures in
-    let f = in_buffers bass bass_lawful _ c.loop-head.invariant c.is_of.ensures c.loop-head-test.true _ _ cue.head cue.cues c.run_of-run.ensures in
-    search rules
-
-pub slice_bounds-strike-count-in-loop-head : goal.slice_bounds-strike-count-in-loop-head
-slice_bounds-strike-count-in-loop-head c =
-    let cue = c.next_cue-step.ensures in
-    let f = in_buffers bass bass_lawful _ c.loop-head.invariant c.is_of.ensures c.loop-head-test.true _ _ cue.head cue.cues c.run_of-run.ensures in
-    f.rising
-
-pub slice_bounds-strike-end-in-loop-head : goal.slice_bounds-strike-end-in-loop-head
-slice_bounds-strike-end-in-loop-head c =
-    let cue = c.next_cue-step.ensures in
-    let f = in_buffers bass bass_lawful _ c.loop-head.invariant c.is_of.ensures c.loop-head-test.true _ _ cue.head cue.cues c.run_of-run.ensures in
-    f.room
-
-pub slice_bounds-strike-length-in-loop-head : goal.slice_bounds-strike-length-in-loop-head
-slice_bounds-strike-length-in-loop-head c =
-    let cue = c.next_cue-step.ensures in
-    let f = in_buffers bass bass_lawful _ c.loop-head.invariant c.is_of.ensures c.loop-head-test.true _ _ cue.head cue.cues c.run_of-run.ensures in
-    sym f.block
-
-pub strike-voice-requires : goal.strike-voice-requires
-strike-voice-requires c =
-    let cue = c.next_cue-step.ensures in
-    let f = in_buffers bass bass_lawful _ c.loop-head.invariant c.is_of.ensures c.loop-head-test.true _ _ cue.head cue.cues c.run_of-run.ensures in f.block ∙ sym f.part
 
 pub shape_of-out : goal.shape_of-out
 shape_of-out c = c.loop-head.invariant.0.room ∙ sym c.requires.room

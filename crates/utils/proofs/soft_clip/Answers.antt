@@ -1,12 +1,7 @@
 -- Each branch is an arm of the definition; the literals agree by computing.
-use borrow.Author.Rules.{rules}
 use lib.Ieee.{round, of_bits}
 use Rattle.utils.specs.Utils.{soft_clip}
 use Rattle.utils.proofs.soft_clip.Goals as goal
-
-pub soft_limit-requires : goal.soft_limit-requires
-unfolding soft_clip round of_bits
-soft_limit-requires c = search rules
 
 pub returns-then-x : goal.returns-then-x
 unfolding soft_clip round of_bits

@@ -2,16 +2,11 @@
 use borrow.Author.Tests.{eq-eqb, ne_eqb}
 use Rattle.text.specs.Read.{decimal}
 use Rattle.text.proofs.Numeral.{form}
-use borrow.Author.Rules.{rules}
 use Rattle.text.proofs.read.decimal.Goals as goal
 
 pub returns-then-text-eq0 : goal.returns-then-text-eq0
 unfolding decimal
 returns-then-text-eq0 c = search (form, eq-eqb)
-
-pub numeral-requires : goal.numeral-requires
-unfolding decimal
-numeral-requires c = search rules
 
 pub returns-then-text-eq1 : goal.returns-then-text-eq1
 unfolding decimal

@@ -2,12 +2,7 @@
 use borrow.Author.Tests.{eq-eqb, ne_eqb}
 use Rattle.text.specs.Read.{pattern}
 use Rattle.text.proofs.Numeral.{eight_digits}
-use borrow.Author.Rules.{rules}
 use Rattle.text.proofs.read.pattern.Goals as goal
-
-pub numeral-requires : goal.numeral-requires
-unfolding pattern
-numeral-requires c = search rules
 
 pub returns-then-text-eq8 : goal.returns-then-text-eq8
 unfolding pattern

@@ -18,10 +18,6 @@ returns-then-out-length c = let known = sym c.judge.ensures ∙ ap Sheet.answer 
       calls = never_refused _;
     }
 
-pub slice_bounds-render_voices-end-in-Accepted : goal.slice_bounds-render_voices-end-in-Accepted
-unfolding answer in_buffer render filled
-slice_bounds-render_voices-end-in-Accepted c = sym (length-take-le _ _ c.if-out-length.false)
-
 pub returns-in-Refused : goal.returns-in-Refused
 unfolding answer in_buffer render filled
 returns-in-Refused c = record {

@@ -1,8 +1,5 @@
 -- Each return is a case of the definition.
-use mathlib.Core.Path.{sym}
-use lib.Seq.{length-take-le}
 use Rattle.draw_request.proofs.Requests.{one_field, more_fields, two_fields}
-use borrow.Author.Rules.{rules}
 use Rattle.draw_request.proofs.read_line.Goals as goal
 
 pub returns-then-comma-line : goal.returns-then-comma-line
@@ -10,9 +7,6 @@ returns-then-comma-line c = search one_field
 
 pub returns-then-field_end-line : goal.returns-then-field_end-line
 returns-then-field_end-line c = search more_fields
-
-pub slice_bounds-decimal-end : goal.slice_bounds-decimal-end
-slice_bounds-decimal-end c = sym (length-take-le _ _ (search rules))
 
 pub returns : goal.returns
 returns c = search two_fields

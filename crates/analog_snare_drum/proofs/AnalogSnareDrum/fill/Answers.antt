@@ -1,18 +1,8 @@
 -- The loop's law of `block`; an excitation that is kept at rest stays right.
 use native.Mathlib.Omega.{arith}
-use lib.ListN.{length-set}
-use Rattle.block.proofs.Blocks.{begin, turn, end_source}
+use Rattle.block.proofs.Blocks.{turn, end_source}
 use Rattle.analog_snare_drum.proofs.Rest.{kept}
 use Rattle.analog_snare_drum.proofs.AnalogSnareDrum.fill.Goals as goal
-
-pub loop-i-init : goal.loop-i-init
-loop-i-init c = (begin _ _ _ _ (omega arith), record { current = c.excitation-e.ensures; rest = c.is_at_rest-at_rest.ensures.0 })
-
-pub loop-i-smaller-then-not-at_rest : goal.loop-i-smaller-then-not-at_rest
-loop-i-smaller-then-not-at_rest c = simp length-set (omega arith)
-
-pub loop-i-smaller : goal.loop-i-smaller
-loop-i-smaller c = simp length-set (omega arith)
 
 pub returns : goal.returns
 returns c = let p = end_source _ _ _ _ _ _ c.loop-i.invariant.0 c.loop-i-test.false in

@@ -1,4 +1,4 @@
--- The definition's two arms, by the trigger.
+-- The definition's arm of a trigger that is set.
 use lib.Ieee.{round, of_bits}
 use Rattle.analog_snare_drum.specs.AnalogSnareDrum.{triggered}
 use Rattle.analog_snare_drum.proofs.AnalogSnareDrum.triggered.Goals as goal
@@ -6,7 +6,3 @@ use Rattle.analog_snare_drum.proofs.AnalogSnareDrum.triggered.Goals as goal
 pub returns-then-trigger : goal.returns-then-trigger
 unfolding triggered round of_bits
 returns-then-trigger c = rw c.if-trigger.true
-
-pub returns-else-trigger : goal.returns-else-trigger
-unfolding triggered round of_bits
-returns-else-trigger c = rw c.if-trigger.false

@@ -18,12 +18,6 @@ prove-unreachable-requires c =
     let f = in_buffers bass bass_lawful _ c.loop-head.invariant c.is_of.ensures c.loop-head-test.true _ _ cue.head cue.cues c.run_of-run.ensures in
     search rules
 
-pub shape_of-out : goal.shape_of-out
-shape_of-out c = c.loop-head.invariant.0.room ∙ sym c.requires.room
-
-pub shape_of-scratch : goal.shape_of-scratch
-shape_of-scratch c = c.loop-head.invariant.1 ∙ sym c.requires.enough
-
 pub returns : goal.returns
 returns c = ends_here bass bass_lawful _ c.loop-head.invariant.0 (sym c.is_of.ensures ∙ c.loop-head-test.false)
 

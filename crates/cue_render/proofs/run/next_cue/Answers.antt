@@ -1,11 +1,8 @@
 -- The walk goes on to the line that is a cue of the voice, or to the sheet's end.
-use mathlib.Core.Path.{refl, sym, ◌∙◌}
+use mathlib.Core.Path.{sym, ◌∙◌}
 use Rattle.cue_sheet.proofs.Walks.{next_head, next_less}
 use Rattle.cue_render.proofs.Runs.{found, passed_by, none_left}
 use Rattle.cue_render.proofs.run.next_cue.Goals as goal
-
-pub loop-walk-init : goal.loop-walk-init
-loop-walk-init c = (refl, refl)
 
 pub returns-then-is_of : goal.returns-then-is_of
 returns-then-is_of c = let own = c.is_of in

@@ -8,14 +8,6 @@ pub after_field-p1-requires : goal.after_field-p1-requires
 unfolding field_start
 after_field-p1-requires c = (omega arith, refl)
 
-pub part-requires : goal.part-requires
-unfolding field_start
-part-requires c = let e = c.after_field-p1.ensures in (omega (arith, e.after), e.within)
-
-pub part-requires-2 : goal.part-requires-2
-unfolding field_start
-part-requires-2 c = let e = c.after_field-p2.ensures in (omega (arith, e.after), e.within)
-
 pub returns : goal.returns
 unfolding read_fields
 returns c =

@@ -4,15 +4,9 @@ use native.Mathlib.Omega.{arith}
 use lib.ListN.{length-take}
 use lib.Seq.{get_or-take}
 use lib.Ieee.{nan}
-use Rattle.block.proofs.Blocks.{begin, turn, end}
+use Rattle.block.proofs.Blocks.{turn, end}
 use Rattle.filter.specs.Svf.{stage}
 use Rattle.filter.proofs.Svf.process_buffer.Goals as goal
-
-pub loop-i-init : goal.loop-i-init
-loop-i-init c = begin _ _ _ _ (simp length-take (omega arith))
-
-pub shape_of-out : goal.shape_of-out
-shape_of-out c = c.loop-i.invariant.long
 
 pub returns : goal.returns
 returns c =

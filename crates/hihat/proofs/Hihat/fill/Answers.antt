@@ -1,17 +1,11 @@
 -- The loop's law of `block`: the loop is one pass over the block.
-use Rattle.std.proofs.Common.{get_or, ap, append-nil, arith, length-set}
+use Rattle.std.proofs.Common.{get_or, ap, append-nil, arith}
 use lib.Seq.{drop-length}
 use lib.Ieee.{nan}
 use Rattle.block.specs.Block.{Turn}
-use Rattle.block.proofs.Blocks.{begin, turn, end}
+use Rattle.block.proofs.Blocks.{turn, end}
 use Rattle.hihat.specs.declared.Hihat.{Hihat}
 use Rattle.hihat.proofs.Hihat.fill.Goals as goal
-
-pub loop-i-init : goal.loop-i-init
-loop-i-init c = begin _ _ _ _ (omega arith)
-
-pub loop-i-smaller : goal.loop-i-smaller
-loop-i-smaller c = simp length-set (omega arith)
 
 pub loop-i-preserved : goal.loop-i-preserved
 loop-i-preserved c =

@@ -1,17 +1,8 @@
 -- The number of the answer decides what the call leaves; an accepted one's block is short, and its one pass leaves what the five passes leave.
-use Rattle.std.proofs.Common.{refl}
-use Rattle.refusal.proofs.ByNumber.{zero_of, suc_of, short_block}
+use Rattle.refusal.proofs.ByNumber.{zero_of, short_block}
 use Rattle.hihat.specs.Hihat.{render_refusal}
 use Rattle.hihat.proofs.OnePass.{five_passes}
 use Rattle.hihat.proofs.Hihat.render.Goals as goal
-
-pub returns-in-Refused : goal.returns-in-Refused
-returns-in-Refused c = let known = c.asked-answer.ensures in
-    record {
-      number = known;
-      voice = rw (suc_of _ _ known _ c.in-Refused.is) refl;
-      out = rw (suc_of _ _ known _ c.in-Refused.is) refl;
-    }
 
 pub settings-settings-requires : goal.settings-settings-requires
 unfolding render_refusal

@@ -1,14 +1,7 @@
 -- The loop's law of `block`.
 use native.Mathlib.Omega.{arith}
-use lib.ListN.{length-set}
-use Rattle.block.proofs.Blocks.{begin, turn, end_source}
+use Rattle.block.proofs.Blocks.{turn, end_source}
 use Rattle.synthetic_snare_drum.proofs.SyntheticSnareDrum.fill.Goals as goal
-
-pub loop-i-init : goal.loop-i-init
-loop-i-init c = begin _ _ _ _ (omega arith)
-
-pub loop-i-smaller : goal.loop-i-smaller
-loop-i-smaller c = simp length-set (omega arith)
 
 pub returns : goal.returns
 returns c = let p = end_source _ _ _ _ _ _ c.loop-i.invariant c.loop-i-test.false in

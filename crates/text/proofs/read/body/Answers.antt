@@ -3,7 +3,7 @@ use Prim.Native.Nat.{◌-◌}
 use native.Mathlib.Omega.{arith}
 use mathlib.Core.Path.{sym}
 use lib.ListN.{length}
-use lib.Seq.{length-take-le, take_all}
+use lib.Seq.{take_all}
 use Rattle.text.specs.Read.{body}
 use borrow.Author.Rules.{rules}
 use Rattle.text.proofs.read.body.Goals as goal
@@ -11,10 +11,6 @@ use Rattle.text.proofs.read.body.Goals as goal
 pub returns-then-n-eq0 : goal.returns-then-n-eq0
 unfolding body
 returns-then-n-eq0 c = let text = c.args.text.now in sym (take_all (length text - 1) text (omega arith))
-
-pub slice_bounds-result-length : goal.slice_bounds-result-length
-unfolding body
-slice_bounds-result-length c = sym (length-take-le _ _ (omega arith))
 
 pub returns : goal.returns
 unfolding body

@@ -1,11 +1,7 @@
 -- From place i the byte lies where it does from place `at`.
-use mathlib.Core.Path.{refl}
 use Rattle.text.proofs.Lines.{over, here, on}
 use borrow.Author.Rules.{rules}
 use Rattle.text.proofs.read.find.Goals as goal
-
-pub loop-i-init : goal.loop-i-init
-loop-i-init c = (refl, search rules)
 
 pub returns-then-s-i-clause-value : goal.returns-then-s-i-clause-value
 returns-then-s-i-clause-value c = search here

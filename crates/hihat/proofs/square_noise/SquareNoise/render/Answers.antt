@@ -1,13 +1,7 @@
 -- The loop's law of `block`, over the increments of f0.
-use Rattle.std.proofs.Common.{arith, length-set}
-use Rattle.block.proofs.Blocks.{begin, turn as going, end_source}
+use Rattle.std.proofs.Common.{arith}
+use Rattle.block.proofs.Blocks.{turn as going, end_source}
 use Rattle.hihat.proofs.square_noise.SquareNoise.render.Goals as goal
-
-pub loop-i-init : goal.loop-i-init
-loop-i-init c = begin _ _ _ _ (omega arith)
-
-pub loop-i-smaller : goal.loop-i-smaller
-loop-i-smaller c = simp length-set (omega arith)
 
 pub returns : goal.returns
 returns c =

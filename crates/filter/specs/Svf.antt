@@ -3,7 +3,8 @@ use Rattle.std.specs.Prelude.{List, ◌++◌, length, take, drop}
 use Rattle.std.specs.Prelude.{Float}
 use Rattle.ieee754.specs.Single.{◌⊕◌, ◌⊖◌, ◌⊗◌, ◌⊘◌, decimal}
 use Rattle.block.specs.Block as Block
-use Rattle.block.specs.Block.{Turn, scan, scanned}
+use Rattle.block.specs.declared.Turn.{Turn}
+use Rattle.block.specs.Block.{scan, scanned}
 use Rattle.filter.specs.declared.Svf.{Svf}
 use Rattle.filter.specs.declared.Passed.{Passed}
 use Rattle.filter.specs.declared.SvfOutput.{SvfOutput}

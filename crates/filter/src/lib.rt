@@ -1,11 +1,12 @@
-// utils/filter.rs: zero-delay-feedback filters, one pole and state variable. A filter goes in by value and comes back with its output.
+// utils/filter.rs: zero-delay-feedback filters, one pole and state variable. A filter goes in by value and comes back with its output, in
+// structs that cross to C by their names, which a pair or one generic struct has not.
 #![tactic(auto)]
 
-ghost use Rattle.std.specs.Prelude.{◌≡◌, min};
+ghost use Rattle.std.specs.Prelude.{◌≡◌};
 ghost use Rattle.filter.specs.OnePole as one_pole;
 ghost use Rattle.filter.specs.Svf as svf;
 
-#[derive(Clone, Copy)]
+#[derive(Clone, Copy, Debug, PartialEq, Eq)]
 pub enum FilterMode {
     LowPass,
     BandPass,
@@ -14,7 +15,7 @@ pub enum FilterMode {
 }
 
 // Without the Rust's `Exact`.
-#[derive(Clone, Copy)]
+#[derive(Clone, Copy, Debug, PartialEq, Eq)]
 pub enum FrequencyApproximation {
     Accurate,
     Fast,
@@ -106,13 +107,15 @@ impl OnePole {
         }
     }
 
-    pub fn set_f(mut self, f: f32, approximation: FrequencyApproximation) -> Self
+    pub fn set_f(self, f: f32, approximation: FrequencyApproximation) -> Self
         ensures { result ≡ one_pole.set_f self f approximation }
     {
         let g = OnePole::tan(f, approximation);
-        self.g = g;
-        self.gi = 1.0 / (1.0 + g);
-        self
+        OnePole {
+            g,
+            gi: 1.0 / (1.0 + g),
+            ..self
+        }
     }
 
     pub fn process(mut self, in_: f32, mode: FilterMode) -> OnePoleOutput
@@ -123,8 +126,7 @@ impl OnePole {
         let out = match mode {
             FilterMode::LowPass => lp,
             FilterMode::HighPass => in_ - lp,
-            FilterMode::BandPass => 0.0,
-            FilterMode::BandPassNormalized => 0.0,
+            FilterMode::BandPass | FilterMode::BandPassNormalized => 0.0,
         };
         OnePoleOutput { filter: self, out }
     }
@@ -167,6 +169,7 @@ struct Passed {
 }
 
 impl Passed {
+    #[tactic(auto, unfolding(crate::specs::Svf::output))]
     fn output(self, mode: FilterMode) -> f32
         ensures { result ≡ svf.output self mode }
     {
@@ -238,6 +241,7 @@ impl Svf {
     }
 
     // One sample through the filter.
+    #[tactic(auto, unfolding(crate::specs::Svf::passed))]
     fn passed(mut self, in_: f32) -> Passed
         ensures { result ≡ svf.passed self in_ }
     {
@@ -254,58 +258,52 @@ impl Svf {
         }
     }
 
+    #[tactic(auto, unfolding(crate::specs::Svf::process))]
     pub fn process(self, in_: f32, mode: FilterMode) -> SvfOutput
         ensures { result ≡ svf.process self in_ mode }
     {
         let p = self.passed(in_);
-        let filter = p.filter;
         SvfOutput {
-            filter,
+            filter: p.filter,
             out: p.output(mode),
         }
     }
 
     // `process` of a filter lent by reference: the filter is copied out, and the one that comes back is stored in its place.
     pub fn process_mut(&mut self, in_: f32, mode: FilterMode) -> f32
-        ensures { let o = svf.process self.old in_ mode in (result ≡ o.out) × (self.new ≡ o.filter) }
+        ensures out { result ≡ (svf.process self.old in_ mode).out }
+        ensures filter { self.new ≡ (svf.process self.old in_ mode).filter }
     {
-        let o = Svf::process(*self, in_, mode);
+        let o = self.process(in_, mode);
         *self = o.filter;
         o.out
     }
 
+    #[tactic(auto, unfolding(crate::specs::Svf::process_dual))]
     pub fn process_dual(self, in_: f32, mode_1: FilterMode, mode_2: FilterMode) -> SvfDualOutput
         ensures { result ≡ svf.process_dual self in_ mode_1 mode_2 }
     {
         let p = self.passed(in_);
-        let filter = p.filter;
         SvfDualOutput {
-            filter,
+            filter: p.filter,
             out_1: p.output(mode_1),
             out_2: p.output(mode_2),
         }
     }
 
-    // As many samples as the shorter slice has; the rest of `out` keeps what it held.
+    // As many samples as the shorter slice has; the rest of `out` keeps what it held. (A `zip` with `out.iter_mut()` proves
+    // nothing of what it writes.)
     pub fn process_buffer(self, in_: &[f32], out: &mut [f32], mode: FilterMode) -> Self
         ensures filter { result ≡ (svf.process_buffer self in_.now out.old mode).state }
         ensures out { out.new ≡ (svf.process_buffer self in_.now out.old mode).out }
     {
-        let n = shorter(in_.len(), out.len());
+        let n = in_.len().min(out.len());
         let mut filter = self;
-        let mut i = 0;
-        while i < n {
-            let o = filter.process(in_[i], mode);
+        for (i, x) in in_[..n].iter().enumerate() {
+            let o = filter.process(*x, mode);
             filter = o.filter;
             out[i] = o.out;
-            i += 1;
         }
         filter
     }
-}
-
-fn shorter(a: usize, b: usize) -> usize
-    ensures { result ≡ min a b }
-{
-    if a < b { a } else { b }
 }

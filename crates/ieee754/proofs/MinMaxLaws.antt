@@ -7,8 +7,9 @@ use lib.Ieee.{Float, Format, fits, is_nan, lt, eq}
 use Rattle.ieee754.specs.Operations as Operations
 use Rattle.ieee754.specs.Operations.{abs, is_sign_minus, precedes, smaller_magnitude, choose, either_nan, the_number}
 use Rattle.ieee754.specs.MinMaxLaws.{Laws, EachLawful, minus_zero, plus_zero}
+use Rattle.ieee754.proofs.Fields.{only_nan}
 use Rattle.ieee754.proofs.Orders.{Numbers, Placed, Same}
-use Rattle.ieee754.proofs.Choice.{only_nan, Way, ways, by_test}
+use Rattle.ieee754.proofs.Choice.{Way, ways, by_test}
 
 -- x by the test m, and otherwise y
 module _ (x y : Float) where

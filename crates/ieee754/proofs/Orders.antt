@@ -1,48 +1,15 @@
 -- The orders of IEEE 754-2019, 9.6, by value and by magnitude, in either format.
-use borrow.Author.Tests.{not-true, not-false, lt-ltb, le-ltb, leb-true, leb-false}
+use borrow.Author.Tests.{lt-ltb, le-ltb}
 use mathlib.Core.Path.{◌≡◌, refl, sym, ◌∙◌}
 use mathlib.Core.Bool.{Bool, true, false, not, ◌&&◌, ◌||◌, and-false, or-false, true≢false}
 use Prim.Native.Nat.{ℕ, ◌+◌}
 use native.Mathlib.Decide.{dec_lt}
 use native.Mathlib.Omega.{arith}
-use lib.Dec.{T, leb, ltb}
-use lib.Ieee.{Float, nan, inf, fin, Format, fits, is_nan, lt, eq, ne, to_bits, top, below, level}
+use lib.Dec.{T, ltb}
+use lib.Ieee.{Float, nan, inf, fin, Format, fits, is_nan, lt, eq, below, level}
 use Rattle.ieee754.specs.Operations.{is_sign_minus, abs, precedes, smaller_magnitude}
-use Rattle.ieee754.proofs.Equal.{equal}
-use Rattle.ieee754.proofs.Fields.{sign_bit, one_value, abs-number}
+use Rattle.ieee754.proofs.Fields.{one_value, abs-number}
 use Rattle.ieee754.proofs.SmallestUnits.{same_bits}
-
--- ---- `precedes` by the tests that a program makes: -0 comes before +0
-
--- of equal numbers, with the patterns a and b, the negative one has the larger pattern, if they differ in sign
-by_top : (s t : Bool) (k a b : ℕ) → s ≡ leb k a → t ≡ leb k b → (s ≡ t → a ≡ b) → ltb b a ≡ (s && not t)
-by_top true true k a b S T e = le-ltb b a (omega (arith, e refl))
-by_top true false k a b S T e = lt-ltb b a (omega (arith, leb-true k a (sym S), leb-false k b (sym T)))
-by_top false true k a b S T e = le-ltb b a (omega (arith, leb-false k a (sym S), leb-true k b (sym T)))
-by_top false false k a b S T e = le-ltb b a (omega (arith, e refl))
-
-module _ (x y : Float) where
-  pub less : lt x y ≡ true → true ≡ precedes x y
-  unfolding precedes
-  less l = simp l
-
-  pub unequal : lt x y ≡ false → ne x y ≡ true → false ≡ precedes x y
-  unfolding precedes ne
-  unequal l n = let e = not-true (eq x y) n in simp (l, e)
-
-  level_by : ne x y ≡ false → eq x y ≡ true
-  unfolding ne
-  level_by = not-false (eq x y)
-
-  pub both_numbers : ne x y ≡ false → T (not (is_nan x)) × T (not (is_nan y))
-  both_numbers n = let e = equal x y (level_by n) in (e.0, e.1)
-
-  pub zeros_in_order : (f : Format) → T (fits f x) → T (fits f y) → lt x y ≡ false → ne x y ≡ false → ltb (to_bits f y) (to_bits f x) ≡ precedes x y
-  unfolding precedes
-  zeros_in_order f F G l n =
-      let e = level_by n in
-      let q = equal x y e in
-      simp (l, e) (by_top _ _ (top f) _ _ (sign_bit f x F q.0) (sign_bit f y G q.1) (q.2 f))
 
 -- ---- orders
 

@@ -11,35 +11,33 @@ use crate::pattern::{packed, significand};
 fn truncate_u64(x: f32) -> u64
     ensures { result ≡ Ieee.to_unsigned 64 x }
 {
-    if x != x {
+    if x.is_nan() {
         return 0;
     }
-    let bits: u32 = f32::to_bits(x);
+    let bits = x.to_bits();
     if bits >= 0x8000_0000 {
         return 0;
     }
-    let exponent: u32 = bits >> 23;
+    let exponent = bits >> 23;
     if exponent < 127 {
         return 0;
     }
     if exponent > 190 {
-        return 0xffff_ffff_ffff_ffff;
+        return u64::MAX;
     }
     // from bit 63 the leading digit moves down to its place, exponent - 127
-    let digits: u64 = (significand(bits) as u64) << 40;
+    let digits = (significand(bits) as u64) << 40;
     digits >> (190 - exponent)
 }
+
+// A function for each type, as Rust has a cast for each. One that is generic over the type would be
+// no plainer: these three bodies, which differ, would stand in three impls of a trait.
 
 // x without its fraction, held at the ends of a `u32`.
 pub fn truncate_u32(x: f32) -> u32
     ensures { result ≡ Ieee.to_unsigned 32 x }
 {
-    let n: u64 = truncate_u64(x);
-    if n > 0xffff_ffff {
-        0xffff_ffff
-    } else {
-        n as u32
-    }
+    truncate_u64(x).min(u32::MAX as u64) as u32
 }
 
 // x without its fraction, held at the ends of a `usize`, which has 64 bits.
@@ -54,17 +52,13 @@ pub fn truncate_i32(x: f32) -> i32
     ensures { result ≡ Ieee.to_signed 31 x }
 {
     if x < 0.0 {
-        let n: u64 = truncate_u64(-x);
+        let n = truncate_u64(-x);
         if n >= 0x8000_0000 {
             return i32::MIN;
         }
-        0 - (n as i32)
+        -(n as i32)
     } else {
-        let n: u64 = truncate_u64(x);
-        if n > 0x7fff_ffff {
-            return i32::MAX;
-        }
-        n as i32
+        truncate_u64(x).min(i32::MAX as u64) as i32
     }
 }
 
@@ -72,8 +66,8 @@ pub fn truncate_i32(x: f32) -> i32
 fn without_last_byte(n: u32) -> u32
     ensures { result ≡ closest n 256 }
 {
-    let kept: u32 = n >> 8;
-    let rest: u32 = n & 0xff;
+    let kept = n >> 8;
+    let rest = n & 0xff;
     // up from above the half, and from the half itself if kept is odd
     if rest + (kept & 1) > 128 {
         kept + 1
@@ -90,6 +84,6 @@ pub fn nearest_f32(n: u32) -> f32
         return 0.0;
     }
     // with the leading digit moved to bit 31, the upper 24 digits are kept
-    let zeros: u32 = u32::leading_zeros(n);
+    let zeros = n.leading_zeros();
     packed(157 - zeros, without_last_byte(n << zeros))
 }

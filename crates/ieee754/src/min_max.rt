@@ -1,86 +1,65 @@
-// The minimum and maximum operations of IEEE 754-2019, 9.6, on `f32`. A NaN that comes back is a
+// The minimum and maximum operations of IEEE 754-2019, 9.6, on either format. A NaN that comes back is a
 // quiet one, as 6.2 has it. No contract sees that: the logic has one NaN, and its pattern is open.
 ghost use Rattle.std.specs.Prelude.{◌≡◌, not, ◌&&◌, ◌||◌};
-ghost use Rattle.std.specs.Float.{binary32};
 ghost use Rattle.std.specs.Float.Ieee.{is_nan};
 ghost use Rattle.ieee754.specs.Operations as Operations;
 ghost use Rattle.ieee754.specs.Operations.{smaller_magnitude, NanWhere};
 
-use crate::operations::abs;
+use crate::format::Format;
 
 // Whether x is below y, where -0.0 is below 0.0.
-fn precedes(x: f32, y: f32) -> bool
-    ensures { result ≡ Operations.precedes x y }
+#[tactic(auto, unfolding(crate::specs::Operations::precedes))]
+fn precedes<F: Format>(x: F, y: F) -> bool
+    ensures { result ≡ Operations.precedes (F.value x) (F.value y) }
 {
-    if x < y {
-        return true;
-    }
-    if x != y {
-        return false;
-    }
-    // equal numbers have one pattern, but for the zeros, of which -0.0 has the larger
-    f32::to_bits(y) < f32::to_bits(x)
+    x.is_less(y) || (x.is_equal(y) && (x.is_sign_minus() && !y.is_sign_minus()))
 }
 
 // Whether x has the smaller magnitude, or the same one and is below y.
-fn precedes_in_magnitude(x: f32, y: f32) -> bool
-    ensures { result ≡ (smaller_magnitude x y || (not (smaller_magnitude y x) && Operations.precedes x y)) }
+#[tactic(auto, unfolding(crate::specs::Operations::smaller_magnitude))]
+fn precedes_in_magnitude<F: Format>(x: F, y: F) -> bool
+    ensures { let a = F.value x in let b = F.value y in result ≡ (smaller_magnitude a b || (not (smaller_magnitude b a) && Operations.precedes a b)) }
 {
-    let a: f32 = abs(x);
-    let b: f32 = abs(y);
-    if a < b {
-        return true;
-    }
-    if b < a {
-        return false;
-    }
-    precedes(x, y)
+    let a = x.abs();
+    let b = y.abs();
+    a.is_less(b) || (!b.is_less(a) && precedes(x, y))
 }
 
 // x; where it is a signaling NaN, a quiet one, which a sum makes of it.
-fn quiet(x: f32) -> f32
-    ensures { result ≡ x }
+#[tactic(auto, using(crate::proofs::Choice::nan_sum))]
+fn quiet<F: Format>(x: F) -> F
+    ensures { F.value result ≡ F.value x }
 {
-    if x != x {
-        return x + x;
-    }
-    x
+    if x.is_nan() { x.plus(x) } else { x }
 }
 
 // Whether an operand is a NaN, so that neither is below the other.
-fn unordered(x: f32, y: f32) -> bool
-    ensures { result ≡ (is_nan x || is_nan y) }
+fn unordered<F: Format>(x: F, y: F) -> bool
+    ensures { result ≡ (is_nan (F.value x) || is_nan (F.value y)) }
 {
-    if x != x {
-        return true;
-    }
-    y != y
+    x.is_nan() || y.is_nan()
 }
 
 // What is left of unordered operands: a NaN.
-fn either_nan(x: f32, y: f32) -> f32
-    ensures { result ≡ Operations.either_nan x y }
+#[tactic(auto, using(crate::proofs::Choice::either_by))]
+fn either_nan<F: Format>(x: F, y: F) -> F
+    ensures { F.value result ≡ Operations.either_nan (F.value x) (F.value y) }
 {
-    if x != x {
-        return quiet(x);
-    }
-    quiet(y)
+    if x.is_nan() { quiet(x) } else { quiet(y) }
 }
 
 // What is left of unordered operands: the number, if one of them is one.
-fn the_number(x: f32, y: f32) -> f32
-    ensures { result ≡ Operations.the_number x y }
+#[tactic(auto, using(crate::proofs::Choice::number_by))]
+fn the_number<F: Format>(x: F, y: F) -> F
+    ensures { F.value result ≡ Operations.the_number (F.value x) (F.value y) }
 {
-    if y != y {
-        return quiet(x);
-    }
-    y
+    if y.is_nan() { quiet(x) } else { y }
 }
 
 // The smaller of two numbers, -0.0 below 0.0. A NaN if either operand is one.
-pub fn minimum(x: f32, y: f32) -> f32
-    ensures value { result ≡ Operations.minimum x y }
-    ensures nan_where { NanWhere binary32 (is_nan x || is_nan y) result }
+pub fn minimum<F: Format>(x: F, y: F) -> F
+    ensures value { F.value result ≡ Operations.minimum (F.value x) (F.value y) }
+    ensures nan_where { NanWhere F.format (is_nan (F.value x) || is_nan (F.value y)) (F.value result) }
 {
     if unordered(x, y) {
         return either_nan(x, y);
@@ -89,9 +68,9 @@ pub fn minimum(x: f32, y: f32) -> f32
 }
 
 // The smaller of two numbers, -0.0 below 0.0. The number if one operand is a NaN, a NaN if both are.
-pub fn minimum_number(x: f32, y: f32) -> f32
-    ensures value { result ≡ Operations.minimum_number x y }
-    ensures nan_where { NanWhere binary32 (is_nan x && is_nan y) result }
+pub fn minimum_number<F: Format>(x: F, y: F) -> F
+    ensures value { F.value result ≡ Operations.minimum_number (F.value x) (F.value y) }
+    ensures nan_where { NanWhere F.format (is_nan (F.value x) && is_nan (F.value y)) (F.value result) }
 {
     if unordered(x, y) {
         return the_number(x, y);
@@ -100,9 +79,9 @@ pub fn minimum_number(x: f32, y: f32) -> f32
 }
 
 // The larger of two numbers, 0.0 above -0.0. A NaN if either operand is one.
-pub fn maximum(x: f32, y: f32) -> f32
-    ensures value { result ≡ Operations.maximum x y }
-    ensures nan_where { NanWhere binary32 (is_nan x || is_nan y) result }
+pub fn maximum<F: Format>(x: F, y: F) -> F
+    ensures value { F.value result ≡ Operations.maximum (F.value x) (F.value y) }
+    ensures nan_where { NanWhere F.format (is_nan (F.value x) || is_nan (F.value y)) (F.value result) }
 {
     if unordered(x, y) {
         return either_nan(x, y);
@@ -111,9 +90,9 @@ pub fn maximum(x: f32, y: f32) -> f32
 }
 
 // The larger of two numbers, 0.0 above -0.0. The number if one operand is a NaN, a NaN if both are.
-pub fn maximum_number(x: f32, y: f32) -> f32
-    ensures value { result ≡ Operations.maximum_number x y }
-    ensures nan_where { NanWhere binary32 (is_nan x && is_nan y) result }
+pub fn maximum_number<F: Format>(x: F, y: F) -> F
+    ensures value { F.value result ≡ Operations.maximum_number (F.value x) (F.value y) }
+    ensures nan_where { NanWhere F.format (is_nan (F.value x) && is_nan (F.value y)) (F.value result) }
 {
     if unordered(x, y) {
         return the_number(x, y);
@@ -122,9 +101,9 @@ pub fn maximum_number(x: f32, y: f32) -> f32
 }
 
 // The operand of smaller magnitude; `minimum` where the magnitudes are equal or an operand is a NaN.
-pub fn minimum_magnitude(x: f32, y: f32) -> f32
-    ensures value { result ≡ Operations.minimum_magnitude x y }
-    ensures nan_where { NanWhere binary32 (is_nan x || is_nan y) result }
+pub fn minimum_magnitude<F: Format>(x: F, y: F) -> F
+    ensures value { F.value result ≡ Operations.minimum_magnitude (F.value x) (F.value y) }
+    ensures nan_where { NanWhere F.format (is_nan (F.value x) || is_nan (F.value y)) (F.value result) }
 {
     if unordered(x, y) {
         return either_nan(x, y);
@@ -133,9 +112,9 @@ pub fn minimum_magnitude(x: f32, y: f32) -> f32
 }
 
 // The operand of smaller magnitude; `minimum_number` where the magnitudes are equal or an operand is a NaN.
-pub fn minimum_magnitude_number(x: f32, y: f32) -> f32
-    ensures value { result ≡ Operations.minimum_magnitude_number x y }
-    ensures nan_where { NanWhere binary32 (is_nan x && is_nan y) result }
+pub fn minimum_magnitude_number<F: Format>(x: F, y: F) -> F
+    ensures value { F.value result ≡ Operations.minimum_magnitude_number (F.value x) (F.value y) }
+    ensures nan_where { NanWhere F.format (is_nan (F.value x) && is_nan (F.value y)) (F.value result) }
 {
     if unordered(x, y) {
         return the_number(x, y);
@@ -144,9 +123,9 @@ pub fn minimum_magnitude_number(x: f32, y: f32) -> f32
 }
 
 // The operand of larger magnitude; `maximum` where the magnitudes are equal or an operand is a NaN.
-pub fn maximum_magnitude(x: f32, y: f32) -> f32
-    ensures value { result ≡ Operations.maximum_magnitude x y }
-    ensures nan_where { NanWhere binary32 (is_nan x || is_nan y) result }
+pub fn maximum_magnitude<F: Format>(x: F, y: F) -> F
+    ensures value { F.value result ≡ Operations.maximum_magnitude (F.value x) (F.value y) }
+    ensures nan_where { NanWhere F.format (is_nan (F.value x) || is_nan (F.value y)) (F.value result) }
 {
     if unordered(x, y) {
         return either_nan(x, y);
@@ -155,9 +134,9 @@ pub fn maximum_magnitude(x: f32, y: f32) -> f32
 }
 
 // The operand of larger magnitude; `maximum_number` where the magnitudes are equal or an operand is a NaN.
-pub fn maximum_magnitude_number(x: f32, y: f32) -> f32
-    ensures value { result ≡ Operations.maximum_magnitude_number x y }
-    ensures nan_where { NanWhere binary32 (is_nan x && is_nan y) result }
+pub fn maximum_magnitude_number<F: Format>(x: F, y: F) -> F
+    ensures value { F.value result ≡ Operations.maximum_magnitude_number (F.value x) (F.value y) }
+    ensures nan_where { NanWhere F.format (is_nan (F.value x) && is_nan (F.value y)) (F.value result) }
 {
     if unordered(x, y) {
         return the_number(x, y);

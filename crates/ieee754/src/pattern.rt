@@ -16,19 +16,17 @@ pub fn from_bits(bits: u32) -> f32
     ensures { result ≡ Ieee.of_bits binary32 bits }
 {
     if is_number(bits) {
-        return f32::from_bits(bits);
+        f32::from_bits(bits)
+    } else {
+        f32::NAN
     }
-    0.0 / 0.0
 }
 
 // The pattern of a float, and 7fc00000 for every not-a-number.
 pub fn to_bits(x: f32) -> u32
     ensures { result ≡ Ieee.to_bits binary32 x }
 {
-    if x != x {
-        return 0x7fc0_0000;
-    }
-    f32::to_bits(x)
+    if x.is_nan() { 0x7fc0_0000 } else { x.to_bits() }
 }
 
 // The significand of a pattern whose exponent's field is not 0: its digits under the leading one.
@@ -41,7 +39,9 @@ pub(crate) fn significand(bits: u32) -> u32
 // digits * 2^place units of the smallest value, 2^-149. The digits are 24, or 2^24 after a carry.
 // The leading digit adds one to the exponent's field, and so does the carry.
 pub(crate) fn packed(place: u32, digits: u32) -> f32
-    requires { (place ≤ 252) × (2 ^ 23 ≤ digits) × (digits ≤ 2 ^ 24) }
+    requires place_fits { place ≤ 252 }
+    requires full { 2 ^ 23 ≤ digits }
+    requires few { digits ≤ 2 ^ 24 }
     ensures { result ≡ Ieee.units binary32 false digits place }
 {
     f32::from_bits((place << 23) + digits)

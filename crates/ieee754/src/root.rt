@@ -1,6 +1,7 @@
 // The square root: that of the significand as a whole number, rounded.
-ghost use Rattle.std.specs.Prelude.{◌≡◌, ℕ, ◌+◌, ◌*◌, ◌^◌, ◌≤◌, ◌<◌};
+ghost use Rattle.std.specs.Prelude.{◌≡◌, ℕ, ◌+◌, ◌*◌, ◌^◌, ◌≤◌, ◌<◌, T, Float};
 ghost use Rattle.std.specs.Float.{binary32};
+ghost use Rattle.std.specs.Float.Ieee.{fits, to_bits};
 ghost use Rattle.ieee754.specs.Root as Root;
 
 use crate::pattern::{packed, significand};
@@ -17,28 +18,29 @@ struct Extracted {
 // has 47 or 48 digits it is off by less than 3 in 100, and two steps leave at most 2 to take away.
 fn extract_root(n: u64) -> Extracted
     requires { n < 2 ^ 48 }
-    ensures { (result.root * result.root + result.rest ≡ n) × (result.rest ≤ 2 * result.root) }
+    ensures square { result.root * result.root + result.rest ≡ n }
+    ensures below_next { result.rest ≤ 2 * result.root }
 {
-    let guess: u64 = n / 24445000 + 5757000;
-    let better: u64 = (guess + n / guess) / 2;
-    let mut root: u64 = (better + n / better) / 2;
+    let guess = n / 24445000 + 5757000;
+    let better = (guess + n / guess) / 2;
+    let mut root = (better + n / better) / 2;
     while root * root > n {
-        root = root - 1;
+        root -= 1;
     }
     Extracted {
-        root: root,
+        root,
         rest: n - root * root,
     }
 }
 
 // The square root of digits * 2^(place - 126) units of the smallest value, rounded to the nearest.
 fn rounded_root(place: u32, digits: u32) -> f32
-    requires { (place ≤ 500) × (2 ^ 23 ≤ digits) × (digits < 2 ^ 24) }
+    requires place_fits { place ≤ 500 }
+    requires full { 2 ^ 23 ≤ digits }
+    requires few { digits < 2 ^ 24 }
     ensures { (a : ℕ) → a * 2 ^ 126 ≡ digits * 2 ^ place → result ≡ Root.root_of binary32 a }
 {
-    let e: Extracted = extract_root((digits as u64) << (23 + place % 2));
-    let root: u64 = e.root;
-    let rest: u64 = e.rest;
+    let Extracted { root, rest } = extract_root((digits as u64) << (23 + place % 2));
     // the square of root + 1/2 is 1/4 above root * root + root
     if rest <= root {
         packed(place / 2, root as u32)
@@ -47,29 +49,39 @@ fn rounded_root(place: u32, digits: u32) -> f32
     }
 }
 
+// The square root of the finite number above 0 that has the pattern `bits`.
+fn root_of_pattern(bits: u32) -> f32
+    requires above_zero { 0 < bits }
+    requires finite { bits < 0x7f80_0000 }
+    ensures { (x : Float) → T (fits binary32 x) → to_bits binary32 x ≡ bits → result ≡ Root.sqrt binary32 x }
+{
+    let exponent = bits >> 23;
+    if exponent > 0 {
+        rounded_root(exponent + 125, significand(bits))
+    } else {
+        // a subnormal number: its leading digit moves to bit 23
+        let zeros = bits.leading_zeros();
+        rounded_root(134 - zeros, bits << (zeros - 8))
+    }
+}
+
 // The square root of x, rounded to the nearest (what that is, `Root.NearestRoot` says); that of -0.0
 // is -0.0, and that of any other negative number is no number.
 pub fn sqrt(x: f32) -> f32
     ensures { result ≡ Root.sqrt binary32 x }
 {
-    if x != x {
+    if x.is_nan() {
         return x;
     }
     if x == 0.0 {
         return x;
     }
-    let bits: u32 = f32::to_bits(x);
+    let bits = x.to_bits();
     if bits >= 0x8000_0000 {
-        return 0.0 / 0.0;
+        return f32::NAN;
     }
     if bits >= 0x7f80_0000 {
         return x;
     }
-    let exponent: u32 = bits >> 23;
-    if exponent == 0 {
-        // a subnormal x: its leading digit moves to bit 23
-        let zeros: u32 = u32::leading_zeros(bits);
-        return rounded_root(134 - zeros, bits << (zeros - 8));
-    }
-    rounded_root(exponent + 125, significand(bits))
+    root_of_pattern(bits)
 }

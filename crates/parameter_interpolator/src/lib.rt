@@ -27,7 +27,7 @@ impl ParameterInterpolator {
     pub fn next(mut self) -> Self
         ensures { result ≡ spec.next self }
     {
-        self.value = self.value + self.increment;
+        self.value += self.increment;
         self
     }
 }

@@ -15,22 +15,19 @@ impl TriggerPulse {
     pub fn next(self, height: f32, decay_time: f32) -> Self
         ensures { result ≡ spec.next self.remaining_samples self.pulse height decay_time }
     {
-        if self.remaining_samples == 0 {
-            return TriggerPulse {
+        match self.remaining_samples.checked_sub(1) {
+            None => TriggerPulse {
                 remaining_samples: 0,
                 pulse: self.pulse * (1.0 - 1.0 / decay_time),
-            };
-        }
-        let remaining_samples = self.remaining_samples - 1;
-        if remaining_samples == 0 {
-            return TriggerPulse {
-                remaining_samples,
+            },
+            Some(0) => TriggerPulse {
+                remaining_samples: 0,
                 pulse: height - 1.0,
-            };
-        }
-        TriggerPulse {
-            remaining_samples,
-            pulse: height,
+            },
+            Some(remaining_samples) => TriggerPulse {
+                remaining_samples,
+                pulse: height,
+            },
         }
     }
 }

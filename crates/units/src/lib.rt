@@ -5,7 +5,9 @@ ghost use Rattle.std.specs.Prelude.{◌≡◌};
 ghost use Rattle.units.specs.Units as spec;
 ghost use Rattle.units.specs.Accuracy.{InTables, Accurate};
 
-mod tables; // tables.rt: LUT_PITCH_RATIO_HIGH and LUT_PITCH_RATIO_LOW, as functions
+mod tables; // LUT_PITCH_RATIO_HIGH and LUT_PITCH_RATIO_LOW
+
+use tables::ratio_at;
 
 // The ratio 2^(semitones / 12), the pitch cut to a 256th of a semitone: whole semitones by one table, 256ths by the other.
 // `pitch` counts from the first entry, at -128 semitones; below 256 it has a place in both tables, and from there on the ratio
@@ -16,11 +18,11 @@ pub fn semitones_to_ratio(semitones: f32) -> f32
 {
     let pitch = semitones + 128.0;
     if pitch >= 256.0 {
-        return tables::high(255) * tables::low(255);
+        return ratio_at(255, 255);
     }
     let pitch_integral = ieee754::truncate_usize(pitch);
     // The Rust takes the step from the fraction of `pitch`. 256 * pitch is exact, so its remainder is the
     // same. `pitch_integral` is not taken from it too: the compiler then makes jumps of a table.
     let step = ieee754::truncate_usize(pitch * 256.0) % 256;
-    tables::high(pitch_integral as u8) * tables::low(step as u8)
+    ratio_at(pitch_integral as u8, step as u8)
 }

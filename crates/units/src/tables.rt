@@ -1,7 +1,6 @@
 // The two tables of the Rust, entry by entry, as constant data.
-ghost use Rattle.std.specs.Prelude.{◌≡◌, get_or};
-ghost use Rattle.std.specs.Float.{nan};
-ghost use Rattle.units.specs.Tables.{LUT_PITCH_RATIO_HIGH as HIGH, LUT_PITCH_RATIO_LOW as LOW};
+ghost use Rattle.std.specs.Prelude.{◌≡◌};
+ghost use Rattle.units.specs.Units as spec;
 
 // 2 ^ ((i - 128) / 12) at place i: whole semitones, from -128.
 static LUT_PITCH_RATIO_HIGH: [f32; 256] = [
@@ -523,16 +522,9 @@ static LUT_PITCH_RATIO_LOW: [f32; 256] = [
     1.059224071e+00,
 ];
 
-// LUT_PITCH_RATIO_HIGH at place i.
-pub fn high(i: u8) -> f32
-    ensures { result ≡ get_or HIGH i nan }
+// The product of LUT_PITCH_RATIO_HIGH at place i and LUT_PITCH_RATIO_LOW at place j.
+pub fn ratio_at(i: u8, j: u8) -> f32
+    ensures { result ≡ spec.ratio_at i j }
 {
-    LUT_PITCH_RATIO_HIGH[i as usize]
-}
-
-// LUT_PITCH_RATIO_LOW at place j.
-pub fn low(j: u8) -> f32
-    ensures { result ≡ get_or LOW j nan }
-{
-    LUT_PITCH_RATIO_LOW[j as usize]
+    LUT_PITCH_RATIO_HIGH[i as usize] * LUT_PITCH_RATIO_LOW[j as usize]
 }

@@ -6,7 +6,7 @@ use Rattle.units.proofs.semitones_to_ratio.Goals as goal
 pub returns-then-pitch : goal.returns-then-pitch
 unfolding round of_bits
 returns-then-pitch c =
-    let p = held _ c.if-pitch.true _ (rw (c.low.ensures, c.high.ensures)) in
+    let p = held _ c.if-pitch.true _ c.ratio_at.ensures in
     record { value = p.0; accurate = p.1 }
 
 pub overflow_cast-pitch_integral : goal.overflow_cast-pitch_integral
@@ -16,5 +16,5 @@ overflow_cast-pitch_integral c = record { fits = rw c.truncate_usize-pitch_integ
 pub returns : goal.returns
 unfolding round of_bits
 returns c =
-    let p = looked_up _ c.if-pitch.false _ (rw (c.low-2.ensures, c.high-2.ensures, c.truncate_usize-step.ensures, c.truncate_usize-pitch_integral.ensures)) in
+    let p = looked_up _ c.if-pitch.false _ (rw (c.ratio_at-2.ensures, c.truncate_usize-step.ensures, c.truncate_usize-pitch_integral.ensures)) in
     record { value = p.0; accurate = p.1 }

@@ -1,4 +1,5 @@
 -- In each arm the mode is known, and the definition computes.
+use mathlib.Core.Logic.{inl, inr}
 use lib.Ieee.{round, of_bits}
 use Rattle.filter.specs.OnePole.{process, output}
 use Rattle.filter.proofs.OnePole.process.Goals as goal
@@ -13,8 +14,4 @@ returns-in-HighPass c = rw c.in-HighPass.is
 
 pub returns-in-BandPass : goal.returns-in-BandPass
 unfolding process output round of_bits
-returns-in-BandPass c = rw c.in-BandPass.is
-
-pub returns-in-BandPassNormalized : goal.returns-in-BandPassNormalized
-unfolding process output round of_bits
-returns-in-BandPassNormalized c = rw c.in-BandPassNormalized.is
+returns-in-BandPass c = elim c.in-BandPass.is [ inl e ↦ rw e | inr e ↦ rw e ]

@@ -30,22 +30,6 @@ pub returns-then-n-eq0 : goal.returns-then-n-eq0
 unfolding of_bits of_int
 returns-then-n-eq0 c = rw c.if-n-eq0.true
 
-pub overflow_sub-zeros : goal.overflow_sub-zeros
-unfolding of_bits of_int
-overflow_sub-zeros c =
-    let n = c.args.n in
-    let positive : 0 < n = omega (arith, c.if-n-eq0.false) in
-    let fits : n < 2 ^ 32 = c.ranges.n.fits in
-    omega (arith, (lead n positive fits).1)
-
-pub overflow_shl-n : goal.overflow_shl-n
-unfolding of_bits of_int
-overflow_shl-n c =
-    let n = c.args.n in
-    let positive : 0 < n = omega (arith, c.if-n-eq0.false) in
-    let fits : n < 2 ^ 32 = c.ranges.n.fits in
-    omega (arith, (lead n positive fits).1)
-
 pub packed-requires : goal.packed-requires
 packed-requires c =
     let n = c.args.n in

@@ -37,14 +37,8 @@ negated_fits n h = rw (negated n h) (go n h)
 pub returns-then-n-ge2147483648 : goal.returns-then-n-ge2147483648
 returns-then-n-ge2147483648 c = rw (minus _ c.truncate_u64-n.ensures c.if-x.true, min-eq_right c.if-n-ge2147483648.true)
 
-pub overflow_sub-result : goal.overflow_sub-result
-overflow_sub-result c = negated_fits _ c.if-n-ge2147483648.false
-
-pub returns-then-n-gt2147483647 : goal.returns-then-n-gt2147483647
-returns-then-n-gt2147483647 c = rw (plus _ c.truncate_u64-n-else-x.ensures c.if-x.false, min-eq_right (le_of_lt c.if-n-gt2147483647.true))
-
 pub returns-else-n-ge2147483648 : goal.returns-else-n-ge2147483648
 returns-else-n-ge2147483648 c = let h = c.if-n-ge2147483648.false in rw (minus _ c.truncate_u64-n.ensures c.if-x.true, min-eq_left (le_of_lt h)) (to_z-of_z w32 _ (negated_fits _ h) ∙ negated _ h)
 
-pub returns-else-n-gt2147483647 : goal.returns-else-n-gt2147483647
-returns-else-n-gt2147483647 c = rw (plus _ c.truncate_u64-n-else-x.ensures c.if-x.false, min-eq_left c.if-n-gt2147483647.false) (to_z_pos w32 _ (omega (arith, c.if-n-gt2147483647.false)))
+pub returns-else-x : goal.returns-else-x
+returns-else-x c = rw (plus _ c.truncate_u64.ensures c.if-x.false, ← c.min.ensures) (to_z_pos w32 _ (omega (arith, c.min.ensures)))

@@ -10,9 +10,6 @@ use Rattle.ieee754.proofs.convert.without_last_byte.Goals as goal
 masks : (n : ℕ) → (bit_and n 255 ≡ n % 256) × (bit_and (n / 256) 1 ≡ n / 256 % 2)
 masks n = (and_mask n 8, and_mask (n / 256) 1)
 
-pub overflow_add-rest : goal.overflow_add-rest
-overflow_add-rest c = omega (arith, masks c.args.n)
-
 pub returns-then-rest-kept-gt128 : goal.returns-then-rest-kept-gt128
 returns-then-rest-kept-gt128 c = sym (closest_up _ 256 (omega (arith, masks c.args.n)))
 

@@ -3,10 +3,10 @@ use Rattle.ieee754.proofs.Choice.{ways, beside_nan, takes_first, takes_second}
 use Rattle.ieee754.proofs.min_max.minimum_number.Goals as goal
 
 pub returns-then-unordered : goal.returns-then-unordered
-returns-then-unordered c = let p = beside_nan ways.minimum_number _ _ c.unordered.ensures c.if-unordered.true c.the_number.ensures in record { value = p.0; nan_where = p.1 }
+returns-then-unordered g c = let p = beside_nan ways.minimum_number _ _ c.unordered.ensures c.if-unordered.true c.the_number.ensures in record { value = p.0; nan_where = p.1 }
 
 pub returns-then-precedes : goal.returns-then-precedes
-returns-then-precedes c = let p = takes_first ways.minimum_number _ _ c.precedes.ensures c.if-precedes.true in record { value = p.0; nan_where = p.1 }
+returns-then-precedes g c = let p = takes_first ways.minimum_number _ _ c.precedes.ensures c.if-precedes.true in record { value = p.0; nan_where = p.1 }
 
 pub returns-else-precedes : goal.returns-else-precedes
-returns-else-precedes c = let p = takes_second ways.minimum_number _ _ c.unordered.ensures c.if-unordered.false c.precedes.ensures c.if-precedes.false in record { value = p.0; nan_where = p.1 }
+returns-else-precedes g c = let p = takes_second ways.minimum_number _ _ c.unordered.ensures c.if-unordered.false c.precedes.ensures c.if-precedes.false in record { value = p.0; nan_where = p.1 }

@@ -15,7 +15,7 @@ unshifted : (c : goal.Start) → let k = c.args.place in k * 2 ^ 23 % 2 ^ 32 ≡
 unshifted c = omega arith
 
 pub returns : goal.returns
-returns c = rw (unshifted c) (packed_is binary32 _ _ c.requires.1 c.requires.2 (lt_of_le_of_lt (mul-le-mul c.requires.2 (pow_mono c.requires.0)) (lit< tt)))
+returns c = rw (unshifted c) (packed_is binary32 _ _ c.requires.full c.requires.few (lt_of_le_of_lt (mul-le-mul c.requires.few (pow_mono c.requires.place_fits)) (lit< tt)))
 
 pub float_from_bits-result : goal.float_from_bits-result
 float_from_bits-result c =

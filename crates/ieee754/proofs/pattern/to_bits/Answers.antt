@@ -1,17 +1,8 @@
--- What differs from itself is the NaN.
+-- A NaN's pattern is the format's own.
 use lib.Ieee.{to_bits}
-use Rattle.ieee754.proofs.Fields.{nan_from_ne, no_nan}
-use borrow.Author.Rules.{rules}
+use Rattle.ieee754.proofs.Fields.{found_nan}
 use Rattle.ieee754.proofs.pattern.to_bits.Goals as goal
 
-pub returns-then-x : goal.returns-then-x
+pub returns-then-is_nan : goal.returns-then-is_nan
 unfolding to_bits
-returns-then-x c = rw (nan_from_ne _ c.if-x.true)
-
-pub float_to_bits-result : goal.float_to_bits-result
-unfolding to_bits
-float_to_bits-result c = no_nan _ c.if-x.false
-
-pub returns : goal.returns
-unfolding to_bits
-returns c = search rules
+returns-then-is_nan c = rw (found_nan _ c.is_nan.ensures.value c.if-is_nan.true)

@@ -35,43 +35,42 @@ module _ (w digits : ℕ) (small : digits < 2 ^ 24) (large : 2 ^ 23 ≤ digits) 
       let places = pow_swap w 23 (23 + w % 2) (h + h) (omega arith) in
       regroup a (2 ^ 126) (2 ^ 23) digits (2 ^ w) (2 ^ (23 + w % 2)) (2 ^ h * 2 ^ h) e (rw (pow-add 2 h h) at places)
 
-  -- its root
-  module _ (root rest : ℕ) (extracted : root * root + rest ≡ rad % 2 ^ 64) (near : rest ≤ 2 * root) where
-    is : root * root + rest ≡ rad
-    is = extracted ∙ whole
-
-    root_lt : root < 2 ^ 24
-    root_lt = sq_lt_back {b = 2 ^ 24} (omega (arith, is, rad_lt))
-
-    root_ge : 2 ^ 23 ≤ root
-    root_ge = le_of_suc-le-suc (sq_lt_back {a = 2 ^ 23} (omega (arith, is, rad_ge, near)))
-
+  -- its root, and what the square of the root leaves
+  record Extracted (root rest : ℕ) : Type 0 where
+    lt : root < 2 ^ 24
+    ge : 2 ^ 23 ≤ root
+    near : rest ≤ 2 * root
     squared : (a : ℕ) → a * 2 ^ 126 ≡ digits * 2 ^ w → a * 2 ^ 149 ≡ (root * root + rest) * (2 ^ (w / 2) * 2 ^ (w / 2))
-    squared a h = rw is (scaled a h)
 
-pub extract_root-e-requires : goal.extract_root-e-requires
-extract_root-e-requires c = rw (whole _ _ c.requires.2 c.requires.1) (rad_lt _ _ c.requires.2 c.requires.1)
+  extracted : {root rest : ℕ} → root * root + rest ≡ rad % 2 ^ 64 → rest ≤ 2 * root → Extracted root rest
+  extracted {root} {rest} square near =
+      let is : root * root + rest ≡ rad = square ∙ whole in
+      record {
+        lt = sq_lt_back {b = 2 ^ 24} (omega (arith, rad_lt));
+        ge = le_of_suc-le-suc (sq_lt_back {a = 2 ^ 23} (omega (arith, rad_ge)));
+        near = near;
+        squared = λ a h. rw is (scaled a h);
+      }
 
-pub overflow_cast-root : goal.overflow_cast-root
-overflow_cast-root c = omega (arith, root_lt _ _ c.requires.2 c.requires.1 _ _ c.extract_root-e.ensures.0 c.extract_root-e.ensures.1)
+pub extract_root-root-requires : goal.extract_root-root-requires
+extract_root-root-requires c = let r = c.requires in rw (whole _ _ r.few r.full) (rad_lt _ _ r.few r.full)
 
 pub packed-requires : goal.packed-requires
-packed-requires c = omega (arith, root_lt _ _ c.requires.2 c.requires.1 _ _ c.extract_root-e.ensures.0 c.extract_root-e.ensures.1, root_ge _ _ c.requires.2 c.requires.1 _ _ c.extract_root-e.ensures.0 c.extract_root-e.ensures.1, c.requires.0)
-
-pub overflow_add-root : goal.overflow_add-root
-overflow_add-root c = omega (arith, root_lt _ _ c.requires.2 c.requires.1 _ _ c.extract_root-e.ensures.0 c.extract_root-e.ensures.1)
-
-pub overflow_cast-root-else-rest-root : goal.overflow_cast-root-else-rest-root
-overflow_cast-root-else-rest-root c = omega (arith, root_lt _ _ c.requires.2 c.requires.1 _ _ c.extract_root-e.ensures.0 c.extract_root-e.ensures.1)
+packed-requires c = let r = c.requires in let e = c.extract_root-root.ensures in omega (arith, extracted c.args.place _ r.few r.full e.square e.below_next)
 
 pub packed-requires-else-rest-root : goal.packed-requires-else-rest-root
-packed-requires-else-rest-root c = omega (arith, root_lt _ _ c.requires.2 c.requires.1 _ _ c.extract_root-e.ensures.0 c.extract_root-e.ensures.1, root_ge _ _ c.requires.2 c.requires.1 _ _ c.extract_root-e.ensures.0 c.extract_root-e.ensures.1, c.requires.0)
+packed-requires-else-rest-root c = let r = c.requires in let e = c.extract_root-root.ensures in omega (arith, extracted c.args.place _ r.few r.full e.square e.below_next)
 
 pub returns-then-rest-root : goal.returns-then-rest-root
 returns-then-rest-root c a h =
-    rw c.packed.ensures (sym (rounds_down binary32 a _ _ _ (squared _ _ c.requires.2 c.requires.1 _ _ c.extract_root-e.ensures.0 c.extract_root-e.ensures.1 a h) c.extract_root-e.ensures.1 (root_ge _ _ c.requires.2 c.requires.1 _ _ c.extract_root-e.ensures.0 c.extract_root-e.ensures.1) (root_lt _ _ c.requires.2 c.requires.1 _ _ c.extract_root-e.ensures.0 c.extract_root-e.ensures.1) c.if-rest-root.true))
+    let r = c.requires in
+    let e = c.extract_root-root.ensures in
+    let x = extracted c.args.place _ r.few r.full e.square e.below_next in
+    rw c.packed.ensures (sym (rounds_down binary32 a _ _ _ (x.squared a h) x.near x.ge x.lt c.if-rest-root.true))
 
 pub returns-else-rest-root : goal.returns-else-rest-root
 returns-else-rest-root c a h =
-    rw (c.packed-else-rest-root.ensures, add-one)
-    (sym (rounds_up binary32 a _ _ _ (squared _ _ c.requires.2 c.requires.1 _ _ c.extract_root-e.ensures.0 c.extract_root-e.ensures.1 a h) c.extract_root-e.ensures.1 (root_ge _ _ c.requires.2 c.requires.1 _ _ c.extract_root-e.ensures.0 c.extract_root-e.ensures.1) (root_lt _ _ c.requires.2 c.requires.1 _ _ c.extract_root-e.ensures.0 c.extract_root-e.ensures.1) c.if-rest-root.false))
+    let r = c.requires in
+    let e = c.extract_root-root.ensures in
+    let x = extracted c.args.place _ r.few r.full e.square e.below_next in
+    rw (c.packed-else-rest-root.ensures, add-one) (sym (rounds_up binary32 a _ _ _ (x.squared a h) x.near x.ge x.lt c.if-rest-root.false))

@@ -1,24 +1,30 @@
--- The two tests are the definition's patterns 0 and n + 1, and its test of n.
-use borrow.Author.Tests.{eq-eqb, ne_eqb}
-use mathlib.Core.Path.{◌≡◌, ap}
-use Prim.Native.Nat.{ℕ, suc, ◌-◌}
+-- The arms are the definition's: none remains, the last one does, or more.
+use borrow.Author.Tests.{ne_eqb}
+use mathlib.Core.Path.{◌≡◌}
+use Prim.Native.Nat.{suc}
 use native.Mathlib.Omega.{arith}
-use lib.Ieee.{Float, round, of_bits}
+use lib.Ieee.{round, of_bits}
 use Rattle.trigger_pulse.specs.TriggerPulse.{next}
 use Rattle.trigger_pulse.proofs.TriggerPulse.next.Goals as goal
 
--- a count that is not 0 is one more than what remains after it
-counted : (n : ℕ) (p h d : Float) → (n ≡ 0 → ⊥) → next n p h d ≡ next (suc (n - 1)) p h d
-counted n p h d f = let e : n ≡ suc (n - 1) = omega arith in ap (λ (k : ℕ). next k p h d) e
-
-pub returns-then-self-eq0 : goal.returns-then-self-eq0
+pub returns-in-None : goal.returns-in-None
 unfolding next round of_bits
-returns-then-self-eq0 c = rw c.if-self-eq0.true
+returns-in-None c =
+    let h = c.in-None.ensures in
+    let none : c.args.self.remaining_samples ≡ 0 = omega arith in
+    rw none
 
-pub returns-then-remaining_samples-eq0 : goal.returns-then-remaining_samples-eq0
+pub returns-in-Some-eq0 : goal.returns-in-Some-eq0
 unfolding next round of_bits
-returns-then-remaining_samples-eq0 c = rw (counted _ _ _ _ c.if-self-eq0.false, eq-eqb _ _ c.if-remaining_samples-eq0.true)
+returns-in-Some-eq0 c =
+    let h = c.in-Some-eq0.ensures in
+    let last : c.args.self.remaining_samples ≡ 1 = omega arith in
+    rw last
 
-pub returns : goal.returns
+pub returns-in-Some : goal.returns-in-Some
 unfolding next round of_bits
-returns c = rw (counted _ _ _ _ c.if-self-eq0.false, ne_eqb _ _ c.if-remaining_samples-eq0.false)
+returns-in-Some c =
+    let n = c.in-Some.remaining_samples in
+    let h = c.in-Some.ensures in
+    let more : c.args.self.remaining_samples ≡ suc n = omega arith in
+    rw (more, ne_eqb n 0 c.in-Some.remaining_samples-test.1)

@@ -2,7 +2,8 @@
 use mathlib.Core.Path.{◌≡◌, refl, sym, ap, ap₂, ◌∙◌}
 use mathlib.Core.List.{List, [], ◌∷◌}
 use lib.Ieee.{Float}
-use Rattle.block.specs.Block.{Turn, scan, scanned, source, Passed, filled, pass, setting}
+use Rattle.block.specs.declared.Turn.{Turn}
+use Rattle.block.specs.Block.{scan, scanned, source, Passed, filled, pass, setting}
 use Rattle.block.specs.OnePass.{then}
 use Rattle.block.proofs.Blocks.{scan_source, scanned-source}
 

@@ -1,7 +1,8 @@
 -- Buffers one after the other, each filled from the state that the one before left, and that they are one block. Definitions only.
 use Rattle.std.specs.Prelude.{◌≡◌, Float}
 use mathlib.Core.List.{List, [], ◌∷◌, ◌++◌, flatten}
-use Rattle.block.specs.Block.{Turn, Passed, filled}
+use Rattle.block.specs.declared.Turn.{Turn}
+use Rattle.block.specs.Block.{Passed, filled}
 
 -- what two passes leave: the state past the second, and the two buffers one after the other
 abbrev pub joined : {S : Type 0} → Passed S → Passed S → Passed S

@@ -2,16 +2,16 @@
 use mathlib.Core.Path.{◌≡◌, refl, sym, ap, ◌∙◌}
 use mathlib.Core.Bool.{Bool, true, false}
 use mathlib.Core.List.{[], ◌∷◌}
-use Prim.Native.Nat.{ℕ, zero, suc, ◌-◌, ◌≤◌, ◌<◌}
+use Prim.Native.Nat.{ℕ, zero, suc, ◌≤◌, ◌<◌}
 use native.Mathlib.Omega.{arith}
 use lib.ListN.{get_or}
 use lib.Ieee.{Float}
 use borrow.Author.Tests.{leb-true, le-leb}
 use Rattle.refusal.specs.declared.Refusal.{Refusal}
 use Rattle.refusal.specs.declared.Refusal.TheVariants.{SampleRate, BlockLength, Frequency, Accent, Knob}
-use Rattle.refusal.specs.declared.Answer.{Answer}
-use Rattle.refusal.specs.declared.Answer.TheVariants.{Accepted, Refused}
-use Rattle.refusal.specs.Refusal.{number, answer_number, unless_refused, ask, is_sample_rate, is_block_length}
+use Rattle.std.specs.Prelude.{Result, Ok, Err, ⊤}
+use Rattle.refusal.specs.declared.Refused.{Refused}
+use Rattle.refusal.specs.Refusal.{number, answer_number, call_number, call_voice, unless_refused, ask, is_sample_rate, is_block_length}
 
 -- a refusal's number is not 0, so an answer of number 0 is an accepted one; the highest is 5
 refusal_of : ℕ → Refusal
@@ -28,28 +28,24 @@ numbered Knob = (refl, omega arith)
 pub refused : (r : Refusal) → (0 < number r) × (number r ≤ 5)
 refused r = (numbered r).1
 
+same_refusal : (r s : Refusal) → number r ≡ number s → r ≡ s
+same_refusal r s e = sym (numbered r).0 ∙ ap refusal_of e ∙ (numbered s).0
+
 -- no two answers share a number, so the contracts, which speak of numbers, determine the answer
-pub known_by_number : (a b : Answer) → answer_number a ≡ answer_number b → a ≡ b
-known_by_number Accepted Accepted e = refl
-known_by_number Accepted (Refused s) e = absurd (omega (arith, (refused s).0))
-known_by_number (Refused r) Accepted e = absurd (omega (arith, (refused r).0))
-known_by_number (Refused r) (Refused s) e = ap Refused (sym (numbered r).0 ∙ ap refusal_of e ∙ (numbered s).0)
+pub known_by_number : (a b : Result ⊤ Refusal) → answer_number a ≡ answer_number b → a ≡ b
+known_by_number (Ok t) (Ok u) e = refl
+known_by_number (Ok t) (Err s) e = absurd (omega (arith, (refused s).0))
+known_by_number (Err r) (Ok u) e = absurd (omega (arith, (refused r).0))
+known_by_number (Err r) (Err s) e = ap Err (same_refusal r s e)
 
--- the number of an accepted answer, and of a refused one
-module _ (a : Answer) (n : ℕ) (known : answer_number a ≡ n) where
-  pub zero_of : a ≡ Accepted → n ≡ 0
-  zero_of e = sym known ∙ ap answer_number e
-
-  pub suc_of : (r : Refusal) → a ≡ Refused r → n ≡ suc (n - 1)
-  suc_of r e = let k : number r ≡ n = rw e at known in omega (arith, (refused r).0)
-
--- a call of this answer that leaves v, where the new value is expected: v is that value where it is accepted, and the old one where it is refused
-module _ {A : Type 0} (new old : A) (a : Answer) (n : ℕ) (known : answer_number a ≡ n) where
-  pub arm_accepted : a ≡ Accepted → (v : A) → v ≡ new → (answer_number a ≡ n) × (v ≡ unless_refused n new old)
-  arm_accepted e v made = (known, rw (zero_of a n known e) made)
-
-  pub arm_refused : (r : Refusal) → a ≡ Refused r → (answer_number a ≡ n) × (old ≡ unless_refused n new old)
-  arm_refused r e = (known, rw (suc_of a n known r e))
+-- nor do two results of a call that hand back the same voice
+pub call_known : {V : Type 0} (a b : Result V (Refused V)) → call_number a ≡ call_number b → call_voice a ≡ call_voice b → a ≡ b
+call_known (Ok v) (Ok w) e h = ap Ok h
+call_known (Ok v) (Err s) e h = absurd (omega (arith, (refused s.refusal).0))
+call_known (Err r) (Ok w) e h = absurd (omega (arith, (refused r.refusal).0))
+call_known {V} (Err r) (Err s) e h =
+    ap (λ (f : Refusal). Err (record { refusal = f; voice = r.voice })) (same_refusal r.refusal s.refusal e)
+    ∙ ap (λ (v : V). Err (record { refusal = s.refusal; voice = v })) h
 
 -- what the new value keeps of the old one, the call keeps
 pub call_keeps : {A B : Type 0} (f : A → B) (n : ℕ) (new old : A) → f new ≡ f old → f (unless_refused n new old) ≡ f old
@@ -67,13 +63,10 @@ shorter m n next h e =
     let p = passed (is_block_length n) 2 next (omega arith) e in
     rw (le-leb m 16384 (omega (arith, leb-true n 16384 p.0))) p.1
 
--- the block of an accepted call of a voice that stores its rate, and a shorter one
+-- a block shorter than that of an accepted call of a voice that stores its rate
 module _ (rate : Float) (size next : ℕ) (h : ask (is_sample_rate rate) 1 (ask (is_block_length size) 2 next) ≡ 0) where
   at_rate : (is_sample_rate rate ≡ true) × (ask (is_block_length size) 2 next ≡ 0)
   at_rate = passed (is_sample_rate rate) 1 (ask (is_block_length size) 2 next) (omega arith) h
-
-  pub short_block : size ≤ 16384
-  short_block = leb-true _ _ (passed (is_block_length size) 2 _ (omega arith) at_rate.1).0
 
   pub shorter_at_rate : (m : ℕ) → m ≤ size → ask (is_sample_rate rate) 1 (ask (is_block_length m) 2 next) ≡ 0
   shorter_at_rate m le = rw at_rate.0 (shorter m size next le at_rate.1)

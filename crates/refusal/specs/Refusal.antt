@@ -1,12 +1,11 @@
 -- Refusals of a voice's call, their numbers, what a call gives, and the questions. Definitions only.
-use Rattle.std.specs.Prelude.{ℕ, zero, suc, ◌^◌, Bool, true, false, ◌&&◌, List, leb, Float}
+use Rattle.std.specs.Prelude.{ℕ, zero, suc, ◌^◌, Bool, true, false, ◌&&◌, List, leb, Float, ⊤, Result, Ok, Err}
 use Rattle.std.specs.Float.{binary32}
 use Rattle.std.specs.Float.Ieee.{le, round}
 use Rattle.ieee754.specs.Single.{decimal}
 use Rattle.refusal.specs.declared.Refusal.{Refusal}
 use Rattle.refusal.specs.declared.Refusal.TheVariants.{SampleRate, BlockLength, Frequency, Accent, Knob}
-use Rattle.refusal.specs.declared.Answer.{Answer}
-use Rattle.refusal.specs.declared.Answer.TheVariants.{Accepted, Refused}
+use Rattle.refusal.specs.declared.Refused.{Refused}
 
 -- the number that a user sees; 6, once a pitch past the tables, is retired and never given to another question, and those from 7 on are the sheet's
 abbrev pub number : Refusal → ℕ
@@ -16,10 +15,19 @@ number Frequency = 3
 number Accent = 4
 number Knob = 5
 
--- the number of an answer, 0 for an accepted call
-abbrev pub answer_number : Answer → ℕ
-answer_number Accepted = 0
-answer_number (Refused r) = number r
+-- the number of an answer, 0 where no question refuses
+abbrev pub answer_number : Result ⊤ Refusal → ℕ
+answer_number (Ok t) = 0
+answer_number (Err r) = number r
+
+-- what a call hands back: the number, 0 where it is accepted, and the voice
+abbrev pub call_number : {V : Type 0} → Result V (Refused V) → ℕ
+call_number (Ok v) = 0
+call_number (Err e) = number e.refusal
+
+abbrev pub call_voice : {V : Type 0} → Result V (Refused V) → V
+call_voice (Ok v) = v
+call_voice (Err e) = e.voice
 
 -- a question with its number, and the number that the questions after it give: the first that is not passed decides, and 0 says that all are
 abbrev pub ask : Bool → ℕ → ℕ → ℕ

@@ -1,11 +1,11 @@
-// What a call of a voice answers: accepted, or refused by the first question that it does not pass; and the questions, one by one.
+// What a call of a voice answers: the voice after it, or the first question that it does not pass and the voice as it was; and the questions, one by one.
 #![tactic(auto)]
 
-ghost use Rattle.std.specs.Prelude.{◌≡◌};
+ghost use Rattle.std.specs.Prelude.{◌≡◌, true, false, OnOk, IfErr};
 ghost use Rattle.refusal.specs.Refusal as spec;
 
 // The questions of a voice's call, by what they ask for, in the order of their numbers.
-#[derive(Clone, Copy)]
+#[derive(Clone, Copy, Debug, PartialEq, Eq)]
 pub enum Refusal {
     SampleRate,
     BlockLength,
@@ -14,17 +14,11 @@ pub enum Refusal {
     Knob,
 }
 
-#[derive(Clone, Copy)]
-pub enum Answer {
-    Accepted,
-    Refused(Refusal),
-}
+impl From<Refusal> for u32 {
+    ghost from_gives = { λ refusal n. n ≡ spec.number refusal };
 
-impl Refusal {
-    pub fn number(self) -> u32
-        ensures { result ≡ spec.number self }
-    {
-        match self {
+    fn from(refusal: Refusal) -> u32 {
+        match refusal {
             Refusal::SampleRate => 1,
             Refusal::BlockLength => 2,
             Refusal::Frequency => 3,
@@ -34,32 +28,49 @@ impl Refusal {
     }
 }
 
-impl Answer {
-    // 0 for an accepted call.
-    pub fn number(self) -> u32
-        ensures { result ≡ spec.answer_number self }
+// A refused call: the voice as it was, and the question. The voice comes first, as in an accepted call's result: so it stands at one place in both, and
+// whoever takes it from either copies it whole.
+#[derive(Clone, Copy, Debug)]
+pub struct Refused<V> {
+    pub voice: V,
+    pub refusal: Refusal,
+}
+
+impl Refusal {
+    pub fn of<V>(self, voice: V) -> Refused<V>
+        ensures { result ≡ record { refusal = self; voice = voice } }
     {
-        match self {
-            Answer::Accepted => 0,
-            Answer::Refused(refusal) => refusal.number(),
+        Refused {
+            voice,
+            refusal: self,
         }
     }
 }
 
-fn ask(passes: bool, refusal: Refusal, next: Answer) -> Answer
-    ensures { spec.answer_number result ≡ spec.ask passes (spec.number refusal) (spec.answer_number next) }
+// A question: the error where it is not passed.
+pub fn ask<E: Drop>(passes: bool, refusal: E) -> Result<(), E>
+    ensures passed { OnOk result (passes ≡ true) }
+    ensures refused { IfErr result (λ e. (passes ≡ false) × (e ≡ refusal)) }
 {
-    if passes {
-        next
-    } else {
-        Answer::Refused(refusal)
-    }
+    if passes { Ok(()) } else { Err(refusal) }
 }
 
 fn within(low: f32, high: f32, x: f32) -> bool
     ensures { result ≡ spec.within low high x }
 {
     low <= x && x <= high
+}
+
+pub fn is_sample_rate(sample_rate_hz: f32) -> bool
+    ensures { result ≡ spec.is_sample_rate sample_rate_hz }
+{
+    within(16000.0, 96000.0, sample_rate_hz)
+}
+
+pub fn is_block_length(samples: usize) -> bool
+    ensures { result ≡ spec.is_block_length samples }
+{
+    samples <= 16384
 }
 
 // The smallest frequency is 2^-20, written out.
@@ -81,45 +92,4 @@ pub fn is_bass_decay(x: f32) -> bool
     ensures { result ≡ spec.is_bass_decay x }
 {
     within(0.0, 2.0, x)
-}
-
-// Each call asks its own questions, in the order of their numbers. `next` is the answer of the questions after it.
-pub fn ask_sample_rate(sample_rate_hz: f32, next: Answer) -> Answer
-    ensures { spec.answer_number result ≡ spec.ask (spec.is_sample_rate sample_rate_hz) 1 (spec.answer_number next) }
-{
-    ask(
-        within(16000.0, 96000.0, sample_rate_hz),
-        Refusal::SampleRate,
-        next,
-    )
-}
-
-pub fn ask_block_length(samples: usize, next: Answer) -> Answer
-    ensures { spec.answer_number result ≡ spec.ask (spec.is_block_length samples) 2 (spec.answer_number next) }
-{
-    ask(samples <= 16384, Refusal::BlockLength, next)
-}
-
-pub fn ask_frequency(f0: f32, next: Answer) -> Answer
-    ensures { spec.answer_number result ≡ spec.ask (spec.is_frequency f0) 3 (spec.answer_number next) }
-{
-    ask(is_frequency(f0), Refusal::Frequency, next)
-}
-
-pub fn ask_accent(accent: f32, next: Answer) -> Answer
-    ensures { spec.answer_number result ≡ spec.ask (spec.is_unit accent) 4 (spec.answer_number next) }
-{
-    ask(is_unit(accent), Refusal::Accent, next)
-}
-
-pub fn ask_knob(knob: f32, next: Answer) -> Answer
-    ensures { spec.answer_number result ≡ spec.ask (spec.is_unit knob) 5 (spec.answer_number next) }
-{
-    ask(is_unit(knob), Refusal::Knob, next)
-}
-
-pub fn ask_bass_decay(decay: f32, next: Answer) -> Answer
-    ensures { spec.answer_number result ≡ spec.ask (spec.is_bass_decay decay) 5 (spec.answer_number next) }
-{
-    ask(is_bass_decay(decay), Refusal::Knob, next)
 }

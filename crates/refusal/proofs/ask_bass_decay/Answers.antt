@@ -1,5 +1,0 @@
--- The question by its definition, and what `ask` makes of it.
-use Rattle.refusal.proofs.ask_bass_decay.Goals as goal
-
-pub returns : goal.returns
-returns c = rw (c.ask.ensures, c.is_bass_decay.ensures)

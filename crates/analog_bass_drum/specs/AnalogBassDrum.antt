@@ -3,7 +3,8 @@ use Rattle.std.specs.Prelude.{ℕ, ◌-◌, Bool, cond, List, [], eqb, length, F
 use Rattle.std.specs.Float.Ieee.{neg, le, to_unsigned}
 use Rattle.ieee754.specs.Single.{◌⊕◌, ◌⊖◌, ◌⊗◌, ◌⊘◌, decimal}
 use Rattle.ieee754.specs.Operations.{abs, minimum_number, clamp}
-use Rattle.block.specs.Block.{Turn, samples, after}
+use Rattle.block.specs.declared.Turn.{Turn}
+use Rattle.block.specs.Block.{samples, after}
 use Rattle.refusal.specs.Refusal.{Call, call, ask, is_sample_rate, is_block_length, is_frequency, is_unit, is_bass_decay}
 use Rattle.units.specs.Units.{ratio}
 use Rattle.utils.specs.Utils.{one_pole}

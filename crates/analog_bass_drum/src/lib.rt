@@ -1,14 +1,16 @@
 // drums/analog_bass_drum.rs: 808 bass drum model, without its sustain mode.
 #![tactic(auto)]
 
-ghost use Rattle.std.specs.Prelude.{◌≡◌, true, cond, length};
-ghost use Rattle.refusal.specs.Refusal.{answer_number};
+ghost use Rattle.std.specs.Prelude.{◌≡◌, true, length};
+ghost use Rattle.refusal.specs.Refusal.{answer_number, call_number, call_voice};
 ghost use Rattle.block.specs.Block.{samples, after};
 ghost use Rattle.analog_bass_drum.specs.AnalogBassDrum as spec;
 ghost use Rattle.analog_bass_drum.specs.Excitation.{fm_pulse, excitation, AtRest};
 
 use filter::{FilterMode, FrequencyApproximation, Svf};
-use refusal::Answer;
+use refusal::{
+    Refusal, Refused, ask, is_bass_decay, is_block_length, is_frequency, is_sample_rate, is_unit,
+};
 use trigger_pulse::TriggerPulse;
 
 #[repr(C)]
@@ -39,13 +41,6 @@ pub struct Knobs {
     pub decay: f32,
     pub attack_fm_amount: f32,
     pub self_fm_amount: f32,
-}
-
-// What a call answers, and the voice after it.
-#[derive(Clone, Copy)]
-pub struct Answered {
-    pub answer: Answer,
-    pub voice: AnalogBassDrum,
 }
 
 // What stays the same over a block.
@@ -101,21 +96,14 @@ impl AnalogBassDrum {
         retrig_pulse_duration: 0.0,
     };
 
-    pub fn init(self, sample_rate_hz: f32) -> Answered
-        ensures number { answer_number result.answer ≡ (spec.init self sample_rate_hz).number }
-        ensures voice { result.voice ≡ (spec.init self sample_rate_hz).state }
+    pub fn init(self, sample_rate_hz: f32) -> Result<Self, Refused<Self>>
+        ensures number { call_number result ≡ (spec.init self sample_rate_hz).number }
+        ensures voice { call_voice result ≡ (spec.init self sample_rate_hz).state }
     {
-        let answer = refusal::ask_sample_rate(sample_rate_hz, Answer::Accepted);
-        match answer {
-            Answer::Refused(_) => Answered {
-                answer,
-                voice: self,
-            },
-            Answer::Accepted => {
-                let voice = self.initialized(sample_rate_hz);
-                Answered { answer, voice }
-            }
-        }
+        ask(is_sample_rate(sample_rate_hz), Refusal::SampleRate).map_err(|refusal| refusal.of(
+            self,
+        ))?;
+        Ok(self.initialized(sample_rate_hz))
     }
 
     fn initialized(self, sample_rate_hz: f32) -> Self
@@ -133,88 +121,91 @@ impl AnalogBassDrum {
         }
     }
 
-    pub fn render(self, trigger: bool, accent: f32, knobs: Knobs, out: &mut [f32]) -> Answered
-        ensures number { answer_number result.answer ≡ (spec.render self trigger accent knobs out.old).number }
-        ensures voice { result.voice ≡ (spec.render self trigger accent knobs out.old).state }
+    pub fn render(
+        self,
+        trigger: bool,
+        accent: f32,
+        knobs: Knobs,
+        out: &mut [f32],
+    ) -> Result<Self, Refused<Self>>
+        ensures number { call_number result ≡ (spec.render self trigger accent knobs out.old).number }
+        ensures voice { call_voice result ≡ (spec.render self trigger accent knobs out.old).state }
         ensures out { out.new ≡ (spec.render self trigger accent knobs out.old).out }
     {
-        let answer = knobs.asked(accent, out.len());
-        match answer {
-            Answer::Refused(_) => Answered {
-                answer,
-                voice: self,
-            },
-            Answer::Accepted => {
-                let settings = knobs.settings();
-                let voice = self.triggered(trigger, accent).fill(settings, out);
-                Answered { answer, voice }
-            }
-        }
+        knobs
+            .asked(accent, out.len())
+            .map_err(|refusal| refusal.of(self))?;
+        let voice = if trigger {
+            self.triggered(accent)
+        } else {
+            self
+        };
+        Ok(voice.fill(knobs.settings(), out))
     }
 
     // `render` as two calls: what it does where its trigger is set, and a block without a trigger.
-    pub fn strike(self, accent: f32) -> Answered
-        ensures number { answer_number result.answer ≡ (spec.strike self accent).number }
-        ensures voice { result.voice ≡ (spec.strike self accent).state }
+    pub fn strike(self, accent: f32) -> Result<Self, Refused<Self>>
+        ensures number { call_number result ≡ (spec.strike self accent).number }
+        ensures voice { call_voice result ≡ (spec.strike self accent).state }
     {
-        let answer = refusal::ask_accent(accent, Answer::Accepted);
-        match answer {
-            Answer::Refused(_) => Answered {
-                answer,
-                voice: self,
-            },
-            Answer::Accepted => {
-                let voice = self.triggered(true, accent);
-                Answered { answer, voice }
-            }
-        }
+        ask(is_unit(accent), Refusal::Accent).map_err(|refusal| refusal.of(self))?;
+        Ok(self.triggered(accent))
     }
 
     // 0.0 passes the question that an untriggered `render` asks of an accent and makes nothing of.
-    pub fn run(self, knobs: Knobs, out: &mut [f32]) -> Answered
-        ensures number { answer_number result.answer ≡ (spec.run self knobs out.old).number }
-        ensures voice { result.voice ≡ (spec.run self knobs out.old).state }
+    #[tactic(auto, using(refusal::proofs::StrikeAndRun::no_accent), unfolding(crate::specs::AnalogBassDrum::render_refusal, crate::specs::AnalogBassDrum::run_refusal))]
+    pub fn run(self, knobs: Knobs, out: &mut [f32]) -> Result<Self, Refused<Self>>
+        ensures number { call_number result ≡ (spec.run self knobs out.old).number }
+        ensures voice { call_voice result ≡ (spec.run self knobs out.old).state }
         ensures out { out.new ≡ (spec.run self knobs out.old).out }
     {
         self.render(false, 0.0, knobs, out)
     }
 
-    fn triggered(self, trigger: bool, accent: f32) -> Self
-        ensures { result ≡ cond trigger (spec.triggered self accent) self }
+    fn triggered(self, accent: f32) -> Self
+        ensures { result ≡ spec.triggered self accent }
     {
-        if trigger {
-            AnalogBassDrum {
-                pulse_remaining_samples: self.trigger_pulse_duration,
-                fm_pulse_remaining_samples: self.fm_pulse_duration,
-                pulse_height: 3.0 + 7.0 * accent,
-                lp_out: 0.0,
-                ..self
-            }
-        } else {
-            self
+        AnalogBassDrum {
+            pulse_remaining_samples: self.trigger_pulse_duration,
+            fm_pulse_remaining_samples: self.fm_pulse_duration,
+            pulse_height: 3.0 + 7.0 * accent,
+            lp_out: 0.0,
+            ..self
         }
     }
 
     // The loop over the block.
+    #[inline(never)]
     fn fill(self, settings: Settings, out: &mut [f32]) -> Self
         ensures voice { result ≡ after (spec.step settings) (length out.old) self }
         ensures out { out.new ≡ samples (spec.step settings) (length out.old) self }
     {
         let mut voice = self;
         let mut e = voice.excitation(settings);
-        let mut i = 0;
-        while i < out.len() && !voice.is_at_rest(e) {
+        for i in 0..out.len() {
+            if voice.is_at_rest(e) {
+                return voice.fill_at_rest(settings, e, &mut out[i..]);
+            }
             voice = voice.step(settings, e);
             out[i] = voice.tone_lp;
-            i += 1;
             e = voice.excitation(settings);
         }
-        // The pulses have come to rest, at most rates in subnormals that their products round back to themselves.
-        // No turn changes the excitation any more, and products of subnormals are slow: e is kept.
-        while i < out.len() {
+        voice
+    }
+
+    // The pulses have come to rest, at most rates in subnormals that their products round back to themselves.
+    // No turn changes the excitation any more, and products of subnormals are slow: e is kept.
+    // A `for` and not `block::pass`, whose turn may be asked of any state: this one asks that e be the excitation of its voice.
+    fn fill_at_rest(self, settings: Settings, e: Excitation, out: &mut [f32]) -> Self
+        requires current { e ≡ excitation settings self }
+        requires rest { AtRest self e }
+        ensures voice { result ≡ after (spec.step settings) (length out.old) self }
+        ensures out { out.new ≡ samples (spec.step settings) (length out.old) self }
+    {
+        let mut voice = self;
+        for sample in out.iter_mut() {
             voice = voice.step(settings, e);
-            out[i] = voice.tone_lp;
-            i += 1;
+            *sample = voice.tone_lp;
         }
         voice
     }
@@ -259,19 +250,11 @@ impl AnalogBassDrum {
     fn is_at_rest(self, e: Excitation) -> bool
         ensures { (result ≡ true → AtRest self e) × (AtRest self e → result ≡ true) }
     {
-        if e.pulse_remaining_samples != self.pulse_remaining_samples {
-            return false;
-        }
-        if e.fm_pulse_remaining_samples != self.fm_pulse_remaining_samples {
-            return false;
-        }
-        if !ieee754::is_same(e.pulse, self.pulse) {
-            return false;
-        }
-        if !ieee754::is_same(e.pulse_lp, self.pulse_lp) {
-            return false;
-        }
-        ieee754::is_same(e.fm_pulse_lp, self.fm_pulse_lp)
+        e.pulse_remaining_samples == self.pulse_remaining_samples
+            && e.fm_pulse_remaining_samples == self.fm_pulse_remaining_samples
+            && ieee754::is_same(e.pulse, self.pulse)
+            && ieee754::is_same(e.pulse_lp, self.pulse_lp)
+            && ieee754::is_same(e.fm_pulse_lp, self.fm_pulse_lp)
     }
 
     // What is left of the turn. The sample is tone_lp.
@@ -323,33 +306,28 @@ impl AnalogBassDrum {
             };
         }
         let remaining_samples = self.fm_pulse_remaining_samples - 1;
-        if remaining_samples == 0 {
-            return FmPulse {
-                remaining_samples,
-                fm_pulse: 1.0,
-                retrig_pulse: -0.8,
-            };
-        }
         FmPulse {
             remaining_samples,
             fm_pulse: 1.0,
-            retrig_pulse: 0.0,
+            retrig_pulse: if remaining_samples == 0 { -0.8 } else { 0.0 },
         }
     }
 }
 
 impl Knobs {
-    // The questions of `render`, the last one first.
-    fn asked(self, accent: f32, samples: usize) -> Answer
+    // The questions of `render`.
+    #[tactic(auto, unfolding(crate::specs::AnalogBassDrum::render_refusal, crate::specs::AnalogBassDrum::knobs_refusal))]
+    fn asked(self, accent: f32, samples: usize) -> Result<(), Refusal>
         ensures { answer_number result ≡ spec.render_refusal accent self samples }
     {
-        let self_fm_amount = refusal::ask_knob(self.self_fm_amount, Answer::Accepted);
-        let attack_fm_amount = refusal::ask_knob(self.attack_fm_amount, self_fm_amount);
-        let decay = refusal::ask_bass_decay(self.decay, attack_fm_amount);
-        let tone = refusal::ask_knob(self.tone, decay);
-        let accent = refusal::ask_accent(accent, tone);
-        let f0 = refusal::ask_frequency(self.f0, accent);
-        refusal::ask_block_length(samples, f0)
+        ask(is_block_length(samples), Refusal::BlockLength)?;
+        ask(is_frequency(self.f0), Refusal::Frequency)?;
+        ask(is_unit(accent), Refusal::Accent)?;
+        ask(is_unit(self.tone), Refusal::Knob)?;
+        ask(is_bass_decay(self.decay), Refusal::Knob)?;
+        ask(is_unit(self.attack_fm_amount), Refusal::Knob)?;
+        ask(is_unit(self.self_fm_amount), Refusal::Knob)?;
+        Ok(())
     }
 
     // The lines before the loop.

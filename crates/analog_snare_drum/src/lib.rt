@@ -4,14 +4,15 @@
 ghost use Rattle.std.specs.Prelude.{◌≡◌, true, cond, length};
 ghost use Rattle.std.specs.Float.Ieee.{lt};
 ghost use Rattle.ieee754.specs.Single.{decimal};
-ghost use Rattle.refusal.specs.Refusal.{answer_number};
+ghost use Rattle.refusal.specs.Refusal.{answer_number, call_number, call_voice};
 ghost use Rattle.block.specs.Block.{samples, after};
 ghost use Rattle.analog_snare_drum.specs.AnalogSnareDrum as spec;
 ghost use Rattle.analog_snare_drum.specs.AnalogSnareDrum.{render};
 ghost use Rattle.analog_snare_drum.specs.Excitation.{excitation, AtRest};
 
+use block::Turn;
 use filter::{FilterMode, FrequencyApproximation, Svf};
-use refusal::Answer;
+use refusal::{Refusal, Refused, ask, is_block_length, is_frequency, is_sample_rate, is_unit};
 use trigger_pulse::TriggerPulse;
 
 const MODE_FREQUENCIES: [f32; 5] = [1.00, 2.00, 3.18, 4.16, 5.62];
@@ -40,13 +41,6 @@ pub struct Knobs {
     pub snappy: f32,
 }
 
-// What a call answers, and the voice after it.
-#[derive(Clone, Copy)]
-pub struct Answered {
-    pub answer: Answer,
-    pub voice: AnalogSnareDrum,
-}
-
 // What stays the same over a block. Decay and leak are made of the knob `snappy`; here it is clamped.
 #[derive(Clone, Copy)]
 struct Settings {
@@ -66,13 +60,6 @@ struct Excitation {
     pulse_lp: f32,
     first: f32,
     other: f32,
-}
-
-// The voice after one turn, and its sample.
-#[derive(Clone, Copy)]
-struct Turn {
-    voice: AnalogSnareDrum,
-    sample: f32,
 }
 
 // A resonator after one sample, and the shell with its part.
@@ -104,33 +91,20 @@ impl AnalogSnareDrum {
         noise: 0,
     };
 
-    pub fn init(self, sample_rate_hz: f32) -> Answered
-        ensures number { answer_number result.answer ≡ (spec.init self sample_rate_hz).number }
-        ensures voice { result.voice ≡ (spec.init self sample_rate_hz).state }
+    pub fn init(self, sample_rate_hz: f32) -> Result<Self, Refused<Self>>
+        ensures number { call_number result ≡ (spec.init self sample_rate_hz).number }
+        ensures voice { call_voice result ≡ (spec.init self sample_rate_hz).state }
     {
-        let answer = refusal::ask_sample_rate(sample_rate_hz, Answer::Accepted);
-        match answer {
-            Answer::Refused(_) => Answered {
-                answer,
-                voice: self,
-            },
-            Answer::Accepted => {
-                let voice = self.initialized(sample_rate_hz);
-                Answered { answer, voice }
-            }
-        }
+        ask(is_sample_rate(sample_rate_hz), Refusal::SampleRate).map_err(|refusal| refusal.of(
+            self,
+        ))?;
+        Ok(self.initialized(sample_rate_hz))
     }
 
     fn initialized(self, sample_rate_hz: f32) -> Self
         ensures { result ≡ spec.initialized self sample_rate_hz }
     {
-        let old = self.resonator;
-        let r0 = Svf::init(old[0]);
-        let r1 = Svf::init(old[1]);
-        let r2 = Svf::init(old[2]);
-        let r3 = Svf::init(old[3]);
-        let r4 = Svf::init(old[4]);
-        let resonator = [r0, r1, r2, r3, r4];
+        let resonator = self.resonator.map(|mode| mode.init());
         let noise_filter = self.noise_filter.init();
         AnalogSnareDrum {
             resonator,
@@ -142,67 +116,56 @@ impl AnalogSnareDrum {
         }
     }
 
-    pub fn render(self, trigger: bool, accent: f32, knobs: Knobs, out: &mut [f32]) -> Answered
-        ensures number { answer_number result.answer ≡ (render self trigger accent knobs out.old).number }
-        ensures voice { result.voice ≡ (render self trigger accent knobs out.old).state }
+    pub fn render(
+        self,
+        trigger: bool,
+        accent: f32,
+        knobs: Knobs,
+        out: &mut [f32],
+    ) -> Result<Self, Refused<Self>>
+        ensures number { call_number result ≡ (render self trigger accent knobs out.old).number }
+        ensures voice { call_voice result ≡ (render self trigger accent knobs out.old).state }
         ensures out { out.new ≡ (render self trigger accent knobs out.old).out }
     {
-        let answer = knobs.asked(accent, out.len());
-        match answer {
-            Answer::Refused(_) => Answered {
-                answer,
-                voice: self,
-            },
-            Answer::Accepted => {
-                let settings = knobs.settings();
-                let voice = self
-                    .triggered(trigger, accent)
-                    .tuned(settings)
-                    .fill(settings, out);
-                Answered { answer, voice }
-            }
-        }
+        knobs
+            .asked(accent, out.len())
+            .map_err(|refusal| refusal.of(self))?;
+        let settings = knobs.settings();
+        let voice = if trigger {
+            self.triggered(accent)
+        } else {
+            self
+        };
+        Ok(voice.tuned(settings).fill(settings, out))
     }
 
     // `render` as two calls: what it does where its trigger is set, and a block without a trigger.
-    pub fn strike(self, accent: f32) -> Answered
-        ensures number { answer_number result.answer ≡ (spec.strike self accent).number }
-        ensures voice { result.voice ≡ (spec.strike self accent).state }
+    pub fn strike(self, accent: f32) -> Result<Self, Refused<Self>>
+        ensures number { call_number result ≡ (spec.strike self accent).number }
+        ensures voice { call_voice result ≡ (spec.strike self accent).state }
     {
-        let answer = refusal::ask_accent(accent, Answer::Accepted);
-        match answer {
-            Answer::Refused(_) => Answered {
-                answer,
-                voice: self,
-            },
-            Answer::Accepted => {
-                let voice = self.triggered(true, accent);
-                Answered { answer, voice }
-            }
-        }
+        ask(is_unit(accent), Refusal::Accent).map_err(|refusal| refusal.of(self))?;
+        Ok(self.triggered(accent))
     }
 
     // 0.0 passes the question that an untriggered `render` asks of an accent and makes nothing of.
-    pub fn run(self, knobs: Knobs, out: &mut [f32]) -> Answered
-        ensures number { answer_number result.answer ≡ (spec.run self knobs out.old).number }
-        ensures voice { result.voice ≡ (spec.run self knobs out.old).state }
+    #[tactic(auto, using(refusal::proofs::StrikeAndRun::no_accent), unfolding(crate::specs::AnalogSnareDrum::render_refusal, crate::specs::AnalogSnareDrum::run_refusal))]
+    pub fn run(self, knobs: Knobs, out: &mut [f32]) -> Result<Self, Refused<Self>>
+        ensures number { call_number result ≡ (spec.run self knobs out.old).number }
+        ensures voice { call_voice result ≡ (spec.run self knobs out.old).state }
         ensures out { out.new ≡ (spec.run self knobs out.old).out }
     {
         self.render(false, 0.0, knobs, out)
     }
 
-    fn triggered(self, trigger: bool, accent: f32) -> Self
-        ensures { result ≡ cond trigger (spec.triggered self accent) self }
+    fn triggered(self, accent: f32) -> Self
+        ensures { result ≡ spec.triggered self accent }
     {
-        if trigger {
-            AnalogSnareDrum {
-                pulse_remaining_samples: self.trigger_pulse_duration,
-                pulse_height: 3.0 + 7.0 * accent,
-                noise_envelope: 2.0,
-                ..self
-            }
-        } else {
-            self
+        AnalogSnareDrum {
+            pulse_remaining_samples: self.trigger_pulse_duration,
+            pulse_height: 3.0 + 7.0 * accent,
+            noise_envelope: 2.0,
+            ..self
         }
     }
 
@@ -210,19 +173,20 @@ impl AnalogSnareDrum {
     fn tuned(self, settings: Settings) -> Self
         ensures { result ≡ spec.tuned settings self }
     {
-        let old = self.resonator;
         let f0 = settings.f0;
-        let q = settings.q;
-        let r0 = tuned_mode(old[0], f0, MODE_FREQUENCIES[0], q);
-        let r1 = tuned_mode(old[1], f0, MODE_FREQUENCIES[1], q * 0.25);
-        let r2 = tuned_mode(old[2], f0, MODE_FREQUENCIES[2], q * 0.25);
-        let r3 = tuned_mode(old[3], f0, MODE_FREQUENCIES[3], q * 0.25);
-        let r4 = tuned_mode(old[4], f0, MODE_FREQUENCIES[4], q * 0.25);
+        let mut resonator = [Svf::ZERO; 5];
+        for i in 0..5 {
+            let q = if i == 0 {
+                settings.q
+            } else {
+                settings.q * 0.25
+            };
+            resonator[i] = tuned_mode(self.resonator[i], f0, MODE_FREQUENCIES[i], q);
+        }
         let f_noise = ieee754::clamp(f0 * 16.0, 0.0, 0.499);
         let noise_filter = self
             .noise_filter
             .set_f_q(f_noise, 1.0 + f_noise * 1.5, FrequencyApproximation::Fast);
-        let resonator = [r0, r1, r2, r3, r4];
         AnalogSnareDrum {
             resonator,
             noise_filter,
@@ -230,7 +194,7 @@ impl AnalogSnareDrum {
         }
     }
 
-    // The loop over the block.
+    // The loop over the block. A `for` and not `block::pass`, whose turn may be asked of any state: this one asks that e be the excitation of its voice.
     fn fill(self, settings: Settings, out: &mut [f32]) -> Self
         ensures voice { result ≡ after (spec.step settings) (length out.old) self }
         ensures out { out.new ≡ samples (spec.step settings) (length out.old) self }
@@ -240,16 +204,16 @@ impl AnalogSnareDrum {
         // The pulse comes to rest, at most rates in a subnormal that its product rounds back to itself.
         // From then on no turn changes the excitation, and products of subnormals are slow: e is kept.
         let mut at_rest = voice.is_at_rest(e);
-        let mut i = 0;
-        while i < out.len() {
+        for sample in out.iter_mut() {
             let turn = voice.step(settings, e);
-            voice = turn.voice;
-            out[i] = turn.sample;
-            i += 1;
-            if !at_rest {
-                e = voice.excitation();
-                at_rest = voice.is_at_rest(e);
+            *sample = turn.sample;
+            voice = turn.next;
+            // With the two lines below under `if !at_rest` the compiler pairs the filters' products worse: 203 instructions a sample, not 146.
+            if at_rest {
+                continue;
             }
+            e = voice.excitation();
+            at_rest = voice.is_at_rest(e);
         }
         voice
     }
@@ -282,20 +246,15 @@ impl AnalogSnareDrum {
     fn is_at_rest(self, e: Excitation) -> bool
         ensures { (result ≡ true → AtRest self e) × (AtRest self e → result ≡ true) }
     {
-        if e.remaining_samples != self.pulse_remaining_samples {
-            return false;
-        }
-        if !ieee754::is_same(e.pulse, self.pulse) {
-            return false;
-        }
-        ieee754::is_same(e.pulse_lp, self.pulse_lp)
+        e.remaining_samples == self.pulse_remaining_samples
+            && ieee754::is_same(e.pulse, self.pulse)
+            && ieee754::is_same(e.pulse_lp, self.pulse_lp)
     }
 
     // What is left of the turn.
-    fn step(self, settings: Settings, e: Excitation) -> Turn
+    fn step(self, settings: Settings, e: Excitation) -> Turn<Self>
         requires { e ≡ excitation self }
-        ensures voice { result.voice ≡ (spec.step settings self).next }
-        ensures sample { result.sample ≡ (spec.step settings self).sample }
+        ensures { result ≡ spec.step settings self }
     {
         let shell = self.shell_output(settings, e.first, e.other);
 
@@ -312,7 +271,7 @@ impl AnalogSnareDrum {
         let resonator = shell.resonator;
         let noise_filter = filtered.filter;
         Turn {
-            voice: AnalogSnareDrum {
+            next: AnalogSnareDrum {
                 pulse_remaining_samples: e.remaining_samples,
                 pulse: e.pulse,
                 pulse_lp: e.pulse_lp,
@@ -331,23 +290,23 @@ impl AnalogSnareDrum {
     fn shell_output(self, settings: Settings, first: f32, other: f32) -> ShellOutput
         ensures { result ≡ spec.shell_output settings self.resonator first other }
     {
-        let old = self.resonator;
-        let gain = settings.gain;
-        let leak = settings.exciter_leak;
-        let m0 = mode_output(0.0, gain[0], old[0], first, leak);
-        let m1 = mode_output(m0.shell, gain[1], old[1], other, leak);
-        let m2 = mode_output(m1.shell, gain[2], old[2], other, leak);
-        let m3 = mode_output(m2.shell, gain[3], old[3], other, leak);
-        let m4 = mode_output(m3.shell, gain[4], old[4], other, leak);
-        let r0 = m0.resonator;
-        let r1 = m1.resonator;
-        let r2 = m2.resonator;
-        let r3 = m3.resonator;
-        let r4 = m4.resonator;
-        let resonator = [r0, r1, r2, r3, r4];
+        let mut resonator = [Svf::ZERO; 5];
+        let mut shell = 0.0;
+        for i in 0..5 {
+            let excitation = if i == 0 { first } else { other };
+            let mode = mode_output(
+                shell,
+                settings.gain[i],
+                self.resonator[i],
+                excitation,
+                settings.exciter_leak,
+            );
+            resonator[i] = mode.resonator;
+            shell = mode.shell;
+        }
         ShellOutput {
             resonator,
-            shell: utils::soft_clip(m4.shell),
+            shell: utils::soft_clip(shell),
         }
     }
 }
@@ -384,16 +343,18 @@ fn tuned_mode(resonator: Svf, f0: f32, mode_frequency: f32, q: f32) -> Svf
 }
 
 impl Knobs {
-    // The questions of `render`, the last one first.
-    fn asked(self, accent: f32, samples: usize) -> Answer
+    // The questions of `render`.
+    #[tactic(auto, unfolding(crate::specs::AnalogSnareDrum::render_refusal, crate::specs::AnalogSnareDrum::knobs_refusal))]
+    fn asked(self, accent: f32, samples: usize) -> Result<(), Refusal>
         ensures { answer_number result ≡ spec.render_refusal accent self samples }
     {
-        let snappy = refusal::ask_knob(self.snappy, Answer::Accepted);
-        let decay = refusal::ask_knob(self.decay, snappy);
-        let tone = refusal::ask_knob(self.tone, decay);
-        let accent = refusal::ask_accent(accent, tone);
-        let f0 = refusal::ask_frequency(self.f0, accent);
-        refusal::ask_block_length(samples, f0)
+        ask(is_block_length(samples), Refusal::BlockLength)?;
+        ask(is_frequency(self.f0), Refusal::Frequency)?;
+        ask(is_unit(accent), Refusal::Accent)?;
+        ask(is_unit(self.tone), Refusal::Knob)?;
+        ask(is_unit(self.decay), Refusal::Knob)?;
+        ask(is_unit(self.snappy), Refusal::Knob)?;
+        Ok(())
     }
 
     // The lines before the loop.

@@ -1,7 +1,8 @@
 -- The five passes over a block are one pass, with both filters set before it: no pass sees what another changes, nor the other filter.
 use Rattle.std.proofs.Common.{◌≡◌, refl, ap, ◌∙◌}
 use lib.Ieee.{Float}
-use Rattle.block.specs.Block.{Turn, Passed, source, pass, setting}
+use Rattle.block.specs.declared.Turn.{Turn}
+use Rattle.block.specs.Block.{Passed, source, pass, setting}
 use Rattle.block.specs.OnePass.{then}
 use Rattle.block.proofs.Passes.{Unseen, Apart, set_before, one_pass, filled-pass}
 use Rattle.hihat.specs.declared.Hihat.{Hihat}

@@ -3,7 +3,8 @@ use Rattle.std.specs.Prelude.{ℕ, Bool, false, cond, not, ◌||◌, List, [], l
 use Rattle.std.specs.Float.Ieee.{neg, le, lt}
 use Rattle.ieee754.specs.Single.{◌⊕◌, ◌⊖◌, ◌⊗◌, ◌⊘◌, decimal}
 use Rattle.ieee754.specs.Operations.{abs, clamp}
-use Rattle.block.specs.Block.{Turn, Passed, filled, pass, setting}
+use Rattle.block.specs.declared.Turn.{Turn}
+use Rattle.block.specs.Block.{Passed, filled, pass, setting}
 use Rattle.refusal.specs.Refusal.{Call, call, ask, is_sample_rate, is_block_length, is_frequency, is_unit}
 use Rattle.units.specs.Units.{ratio}
 use Rattle.random.specs.Random.{get_float}

@@ -3,7 +3,7 @@ use Rattle.std.specs.Prelude.{ℕ, ◌+◌, ◌/◌, ◌%◌, ◌^◌, cond, Lis
 use Rattle.std.specs.Float.{nan, binary32}
 use Rattle.std.specs.Float.Ieee.{le, of_int, to_unsigned}
 use Rattle.ieee754.specs.Single.{◌⊖◌, ◌⊗◌, decimal}
-use Rattle.block.specs.Block.{Turn}
+use Rattle.block.specs.declared.Turn.{Turn}
 use Rattle.hihat.specs.declared.square_noise.SquareNoise.{SquareNoise}
 
 -- a list of six, by place

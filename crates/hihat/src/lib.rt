@@ -2,24 +2,23 @@
 // all five in turn. That both leave the same block and the same voice is a theorem (proofs/OnePass.antt), and the contract cites the passes.
 #![tactic(auto)]
 
+mod passes; // passes.rt: one sample through the passes past the metallic noise
 mod square_noise; // square_noise.rt: the metallic noise
-mod turn; // turn.rt: one sample through the passes
 
-ghost use Rattle.std.specs.Prelude.{◌≡◌, ◌≤◌, cond, if◌then◌else◌, Float};
-ghost use Rattle.refusal.specs.Refusal.{answer_number};
-ghost use Rattle.block.specs.Block.{scan, scanned};
+ghost use Rattle.std.specs.Prelude.{◌≡◌, ◌≤◌, if◌then◌else◌, Float, OnOk};
+ghost use Rattle.refusal.specs.Refusal.{answer_number, call_number, call_voice};
 ghost use Rattle.ieee754.specs.Single.{◌⊕◌, ◌⊗◌, decimal};
 ghost use Rattle.hihat.specs.Hihat as spec;
 ghost use Rattle.hihat.specs.Hihat.{render};
-ghost use Rattle.hihat.specs.OnePass.{tuned, step, turned};
+ghost use Rattle.hihat.specs.OnePass.{tuned, step};
 
+use block::Turn;
 use filter::{FrequencyApproximation, Svf};
 use parameter_interpolator::ParameterInterpolator;
-use refusal::Answer;
+use refusal::{Refusal, Refused, ask, is_block_length, is_frequency, is_sample_rate, is_unit};
 pub use square_noise::SquareNoise;
-use turn::Turn;
 
-#[derive(Clone, Copy)]
+#[derive(Clone, Copy, Debug, PartialEq, Eq)]
 pub enum VcaType {
     Swing,
     Linear,
@@ -53,13 +52,6 @@ pub struct Knobs {
     pub two_stage_envelope: bool,
 }
 
-// What a call answers, and the voice after it.
-#[derive(Clone, Copy)]
-pub struct Answered {
-    pub answer: Answer,
-    pub voice: Hihat,
-}
-
 // What stays the same over a block.
 #[derive(Clone, Copy)]
 struct Settings {
@@ -90,21 +82,12 @@ impl Hihat {
         noise: 0,
     };
 
-    pub fn init(self, sample_rate: f32) -> Answered
-        ensures number { answer_number result.answer ≡ (spec.init self sample_rate).number }
-        ensures voice { result.voice ≡ (spec.init self sample_rate).state }
+    pub fn init(self, sample_rate: f32) -> Result<Self, Refused<Self>>
+        ensures number { call_number result ≡ (spec.init self sample_rate).number }
+        ensures voice { call_voice result ≡ (spec.init self sample_rate).state }
     {
-        let answer = refusal::ask_sample_rate(sample_rate, Answer::Accepted);
-        match answer {
-            Answer::Refused(_) => Answered {
-                answer,
-                voice: self,
-            },
-            Answer::Accepted => {
-                let voice = self.initialized(sample_rate);
-                Answered { answer, voice }
-            }
-        }
+        ask(is_sample_rate(sample_rate), Refusal::SampleRate).map_err(|refusal| refusal.of(self))?;
+        Ok(self.initialized(sample_rate))
     }
 
     // The noise state is the one that the Rust's begins with, 0x21.
@@ -124,64 +107,68 @@ impl Hihat {
         }
     }
 
-    pub fn render(self, trigger: bool, vca_type: VcaType, knobs: Knobs, out: &mut [f32]) -> Answered
-        ensures number { answer_number result.answer ≡ (render self trigger vca_type knobs out.old).number }
-        ensures voice { result.voice ≡ (render self trigger vca_type knobs out.old).state }
+    pub fn render(
+        self,
+        trigger: bool,
+        vca_type: VcaType,
+        knobs: Knobs,
+        out: &mut [f32],
+    ) -> Result<Self, Refused<Self>>
+        ensures number { call_number result ≡ (render self trigger vca_type knobs out.old).number }
+        ensures voice { call_voice result ≡ (render self trigger vca_type knobs out.old).state }
         ensures out { out.new ≡ (render self trigger vca_type knobs out.old).out }
     {
-        let answer = knobs.asked(self.sample_rate, out.len());
-        match answer {
-            Answer::Refused(_) => Answered {
-                answer,
-                voice: self,
-            },
-            Answer::Accepted => {
-                let settings = knobs.settings(self, vca_type, out.len());
-                let voice = self
-                    .triggered(trigger, knobs.accent, knobs.decay)
-                    .tuned(settings)
-                    .fill(settings, out);
-                Answered { answer, voice }
-            }
+        knobs
+            .asked(self.sample_rate, out.len())
+            .map_err(|refusal| refusal.of(self))?;
+        let settings = knobs.settings(self, vca_type, out.len());
+        let mut voice = self;
+        if trigger {
+            voice = self.triggered(knobs.accent, knobs.decay);
         }
+        Ok(voice.passes(settings, out))
     }
 
     // `render` as two calls: what it does where its trigger is set, and a block without a trigger.
-    pub fn strike(self, accent: f32, decay: f32) -> Answered
-        ensures number { answer_number result.answer ≡ (spec.strike self accent decay).number }
-        ensures voice { result.voice ≡ (spec.strike self accent decay).state }
+    pub fn strike(self, accent: f32, decay: f32) -> Result<Self, Refused<Self>>
+        ensures number { call_number result ≡ (spec.strike self accent decay).number }
+        ensures voice { call_voice result ≡ (spec.strike self accent decay).state }
     {
-        let answer = ask_strike(self.sample_rate, accent, decay);
-        match answer {
-            Answer::Refused(_) => Answered {
-                answer,
-                voice: self,
-            },
-            Answer::Accepted => {
-                let voice = self.triggered(true, accent, decay);
-                Answered { answer, voice }
-            }
-        }
+        self.asked(accent, decay)
+            .map_err(|refusal| refusal.of(self))?;
+        Ok(self.triggered(accent, decay))
     }
 
-    pub fn run(self, vca_type: VcaType, knobs: Knobs, out: &mut [f32]) -> Answered
-        ensures number { answer_number result.answer ≡ (spec.run self vca_type knobs out.old).number }
-        ensures voice { result.voice ≡ (spec.run self vca_type knobs out.old).state }
+    pub fn run(
+        self,
+        vca_type: VcaType,
+        knobs: Knobs,
+        out: &mut [f32],
+    ) -> Result<Self, Refused<Self>>
+        ensures number { call_number result ≡ (spec.run self vca_type knobs out.old).number }
+        ensures voice { call_voice result ≡ (spec.run self vca_type knobs out.old).state }
         ensures out { out.new ≡ (spec.run self vca_type knobs out.old).out }
     {
         self.render(false, vca_type, knobs, out)
     }
 
-    fn triggered(self, trigger: bool, accent: f32, decay: f32) -> Self
-        ensures { result ≡ cond trigger (spec.triggered self accent decay) self }
+    // The questions of `strike`.
+    #[tactic(auto, unfolding(crate::specs::Hihat::strike_refusal))]
+    fn asked(self, accent: f32, decay: f32) -> Result<(), Refusal>
+        ensures { answer_number result ≡ spec.strike_refusal self.sample_rate accent decay }
     {
-        if trigger {
-            Hihat {
-                envelope: (1.5 + 0.5 * (1.0 - decay)) * (0.3 + 0.7 * accent),
-                ..self
-            }
-        } else {
-            self
+        ask(is_sample_rate(self.sample_rate), Refusal::SampleRate)?;
+        ask(is_unit(accent), Refusal::Accent)?;
+        ask(is_unit(decay), Refusal::Knob)?;
+        Ok(())
+    }
+
+    fn triggered(self, accent: f32, decay: f32) -> Self
+        ensures { result ≡ spec.triggered self accent decay }
+    {
+        Hihat {
+            envelope: (1.5 + 0.5 * (1.0 - decay)) * (0.3 + 0.7 * accent),
+            ..self
         }
     }
 
@@ -204,70 +191,58 @@ impl Hihat {
         }
     }
 
-    // The loop over the block.
-    fn fill(self, settings: Settings, out: &mut [f32]) -> Self
-        ensures voice { result ≡ scanned (step settings) self out.old }
-        ensures out { out.new ≡ scan (step settings) self out.old }
+    // The passes over the block, in one.
+    #[inline(never)]
+    fn passes(self, settings: Settings, out: &mut [f32]) -> Self
+        ensures voice { result ≡ (spec.passes settings (record { state = self; out = out.old })).state }
+        ensures out { out.new ≡ (spec.passes settings (record { state = self; out = out.old })).out }
     {
-        let mut voice = self;
-        let mut i = 0;
-        while i < out.len() {
-            let t = voice.step(settings);
-            voice = t.voice;
-            out[i] = t.sample;
-            i += 1;
-        }
-        voice
+        block::pass(self.tuned(settings), out, |voice, _| voice.step(settings))
     }
 
     // One sample, through all the passes.
-    fn step(self, settings: Settings) -> Turn
-        ensures { (x : Float) → turned result ≡ step settings self x }
+    fn step(self, settings: Settings) -> Turn<Self>
+        ensures { (x : Float) → result ≡ step settings self x }
     {
-        self.metallic(settings)
-            .colored()
-            .clocked(settings)
-            .amplified(settings)
-            .high_passed()
+        let metallic = self.metallic(settings);
+        let colored = metallic.next.colored(metallic.sample);
+        let clocked = colored.next.clocked(settings, colored.sample);
+        let amplified = clocked.next.amplified(settings, clocked.sample);
+        amplified.next.high_passed(amplified.sample)
     }
 
     // Render the metallic noise.
-    fn metallic(self, settings: Settings) -> Turn
-        ensures { turned result ≡ spec.metallic settings self }
+    #[tactic(auto, unfolding(crate::specs::Hihat::metallic))]
+    fn metallic(self, settings: Settings) -> Turn<Self>
+        ensures { result ≡ spec.metallic settings self }
     {
-        let increment = settings.increment;
-        let square_noise = self.square_noise.advanced(increment);
+        let noise = self.square_noise.turn(settings.increment);
+        let square_noise = noise.next;
         Turn {
-            voice: Hihat {
+            sample: noise.sample,
+            next: Hihat {
                 square_noise,
                 ..self
             },
-            sample: square_noise.level(),
         }
     }
 }
 
-// The questions of `strike`, the last one first.
-fn ask_strike(sample_rate: f32, accent: f32, decay: f32) -> Answer
-    ensures { answer_number result ≡ spec.strike_refusal sample_rate accent decay }
-{
-    let decay = refusal::ask_knob(decay, Answer::Accepted);
-    let accent = refusal::ask_accent(accent, decay);
-    refusal::ask_sample_rate(sample_rate, accent)
-}
-
 impl Knobs {
-    // The questions of `render`, the last one first.
-    fn asked(self, sample_rate: f32, samples: usize) -> Answer
-        ensures { answer_number result ≡ spec.render_refusal sample_rate self samples }
+    // The questions of `render`.
+    #[tactic(auto, unfolding(crate::specs::Hihat::render_refusal))]
+    fn asked(self, sample_rate: f32, samples: usize) -> Result<(), Refusal>
+        ensures number { answer_number result ≡ spec.render_refusal sample_rate self samples }
+        ensures short { OnOk result (samples ≤ 16384) }
     {
-        let noisiness = refusal::ask_knob(self.noisiness, Answer::Accepted);
-        let decay = refusal::ask_knob(self.decay, noisiness);
-        let tone = refusal::ask_knob(self.tone, decay);
-        let accent = refusal::ask_accent(self.accent, tone);
-        let f0 = refusal::ask_frequency(self.f0, accent);
-        let length = refusal::ask_block_length(samples, f0);
-        refusal::ask_sample_rate(sample_rate, length)
+        ask(is_sample_rate(sample_rate), Refusal::SampleRate)?;
+        ask(is_block_length(samples), Refusal::BlockLength)?;
+        ask(is_frequency(self.f0), Refusal::Frequency)?;
+        ask(is_unit(self.accent), Refusal::Accent)?;
+        ask(is_unit(self.tone), Refusal::Knob)?;
+        ask(is_unit(self.decay), Refusal::Knob)?;
+        ask(is_unit(self.noisiness), Refusal::Knob)?;
+        Ok(())
     }
 
     // The lines of `render` outside its passes.

@@ -3,6 +3,8 @@ ghost use Rattle.std.specs.Prelude.{◌≡◌, ◌/◌, ◌^◌, ◌<◌, length
 ghost use Rattle.block.specs.Block.{samples, after};
 ghost use Rattle.hihat.specs.SquareNoise as spec;
 
+use block::Turn;
+
 // The Rust's `ratios`.
 const RATIOS: [f32; 6] = [1.0, 1.304, 1.466, 1.787, 1.932, 2.536];
 
@@ -28,33 +30,29 @@ impl SquareNoise {
         ensures out { out.new ≡ samples (spec.turn (spec.increments f0)) (length out.old) self }
     {
         let increment = increments(f0);
-        let mut noise = self;
-        let mut i = 0;
-        while i < out.len() {
-            noise = noise.advanced(increment);
-            out[i] = noise.level();
-            i += 1;
-        }
-        noise
+        block::pass(self, out, |noise, _| noise.turn(increment))
     }
 
-    pub(crate) fn advanced(self, increment: [u32; 6]) -> Self
+    // One turn of the loop.
+    pub(crate) fn turn(self, increment: [u32; 6]) -> Turn<Self>
+        ensures { result ≡ spec.turn increment self }
+    {
+        let noise = self.advanced(increment);
+        Turn {
+            sample: noise.level(),
+            next: noise,
+        }
+    }
+
+    fn advanced(self, increment: [u32; 6]) -> Self
         ensures { result ≡ (spec.turn increment self).next }
     {
-        let phase = self.phase;
-        let a = std::num::wrapping_add_u32(phase[0], increment[0]);
-        let b = std::num::wrapping_add_u32(phase[1], increment[1]);
-        let c = std::num::wrapping_add_u32(phase[2], increment[2]);
-        let d = std::num::wrapping_add_u32(phase[3], increment[3]);
-        let e = std::num::wrapping_add_u32(phase[4], increment[4]);
-        let f = std::num::wrapping_add_u32(phase[5], increment[5]);
-        SquareNoise {
-            phase: [a, b, c, d, e, f],
-        }
+        let phase = std::array::from_fn(|k: usize| self.phase[k].wrapping_add(increment[k]));
+        SquareNoise { phase }
     }
 
     // The sample, by how many phases have bit 31 set.
-    pub(crate) fn level(self) -> f32
+    fn level(self) -> f32
         ensures { result ≡ spec.level self.phase }
     {
         let phase = self.phase;
@@ -74,13 +72,7 @@ impl SquareNoise {
 pub(crate) fn increments(f0: f32) -> [u32; 6]
     ensures { result ≡ spec.increments f0 }
 {
-    let a = increment_at(f0, RATIOS[0]);
-    let b = increment_at(f0, RATIOS[1]);
-    let c = increment_at(f0, RATIOS[2]);
-    let d = increment_at(f0, RATIOS[3]);
-    let e = increment_at(f0, RATIOS[4]);
-    let f = increment_at(f0, RATIOS[5]);
-    [a, b, c, d, e, f]
+    RATIOS.map(|ratio| increment_at(f0, ratio))
 }
 
 fn increment_at(f0: f32, ratio: f32) -> u32
@@ -93,20 +85,14 @@ fn increment_at(f0: f32, ratio: f32) -> u32
     ieee754::truncate_u32(f * 4294967296.0)
 }
 
-fn high_bit(phase: u32) -> u32
-    ensures { (result ≡ phase / 2 ^ 31) × (result < 2) }
-{
-    phase >> 31
-}
-
 // How many phases have bit 31 set.
 fn count_high(phase: [u32; 6]) -> u32
-    ensures { (result ≡ spec.count_high phase) × (result < 7) }
+    ensures value { result ≡ spec.count_high phase }
+    ensures upper_bound { result < 7 }
 {
-    high_bit(phase[0])
-        + high_bit(phase[1])
-        + high_bit(phase[2])
-        + high_bit(phase[3])
-        + high_bit(phase[4])
-        + high_bit(phase[5])
+    let mut noise = 0;
+    for phase in &phase {
+        noise += *phase >> 31;
+    }
+    noise
 }

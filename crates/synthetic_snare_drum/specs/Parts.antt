@@ -1,14 +1,8 @@
 -- THE PORT'S OWN, which private contracts alone cite: a turn's code in parts. Definitions only.
 use Rattle.std.specs.Prelude.{◌-◌, cond, eqb}
 use Rattle.ieee754.specs.Single.{◌⊕◌, ◌⊗◌, decimal}
-use Rattle.block.specs.Block as Block
 use Rattle.synthetic_snare_drum.specs.declared.SyntheticSnareDrum.{SyntheticSnareDrum}
 use Rattle.synthetic_snare_drum.specs.declared.Settings.{Settings}
-use Rattle.synthetic_snare_drum.specs.declared.Turn.{Turn}
-
--- what a turn's code gives, as the definition's turn
-abbrev pub turned : Turn → Block.Turn SyntheticSnareDrum
-turned t = record { sample = t.sample; next = t.voice }
 
 -- the voice past `if sustain {` and its `else`, where the drum always decays
 unfoldable pub enveloped : SyntheticSnareDrum → Settings → SyntheticSnareDrum

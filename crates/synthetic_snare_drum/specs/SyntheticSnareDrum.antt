@@ -5,7 +5,8 @@ use Rattle.std.specs.Float.{nan}
 use Rattle.std.specs.Float.Ieee.{neg, le, lt, to_unsigned}
 use Rattle.ieee754.specs.Single.{◌⊕◌, ◌⊖◌, ◌⊗◌, ◌⊘◌, decimal}
 use Rattle.ieee754.specs.Operations.{abs, minimum_number, clamp}
-use Rattle.block.specs.Block.{Turn, samples, after}
+use Rattle.block.specs.declared.Turn.{Turn}
+use Rattle.block.specs.Block.{samples, after}
 use Rattle.refusal.specs.Refusal.{Call, call, ask, is_sample_rate, is_block_length, is_frequency, is_unit}
 use Rattle.random.specs.Random.{get_float}
 use Rattle.units.specs.Units.{ratio}

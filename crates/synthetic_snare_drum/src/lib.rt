@@ -1,19 +1,20 @@
 // drums/synthetic_snare_drum.rs: naive snare drum model, two modulated oscillators and filtered noise, with its sustain mode.
 #![tactic(auto)]
 
-ghost use Rattle.std.specs.Prelude.{◌≡◌, cond, ℕ, ◌≤◌, length};
+ghost use Rattle.std.specs.Prelude.{◌≡◌, cond, ℕ, ◌≤◌, length, OnOk};
 ghost use Rattle.std.specs.Float.Ieee.{lt, neg};
 ghost use Rattle.ieee754.specs.Single.{◌⊕◌, ◌⊖◌, decimal};
 ghost use Rattle.ieee754.specs.Operations.{abs};
-ghost use Rattle.refusal.specs.Refusal.{answer_number};
+ghost use Rattle.refusal.specs.Refusal.{answer_number, call_number, call_voice};
 ghost use Rattle.block.specs.Block.{samples, after};
 ghost use Rattle.synthetic_snare_drum.specs.SyntheticSnareDrum as spec;
 ghost use Rattle.synthetic_snare_drum.specs.SyntheticSnareDrum.{render};
-ghost use Rattle.synthetic_snare_drum.specs.Parts.{turned, enveloped};
+ghost use Rattle.synthetic_snare_drum.specs.Parts.{enveloped};
 
+use block::Turn;
 use filter::{FilterMode, FrequencyApproximation, OnePole, Svf};
 use parameter_interpolator::ParameterInterpolator;
-use refusal::Answer;
+use refusal::{Refusal, Refused, ask, is_block_length, is_frequency, is_sample_rate, is_unit};
 
 #[repr(C)]
 #[derive(Clone, Copy)]
@@ -43,13 +44,6 @@ pub struct Knobs {
     pub snappy: f32,
 }
 
-// What a call answers, and the voice after it.
-#[derive(Clone, Copy)]
-pub struct Answered {
-    pub answer: Answer,
-    pub voice: SyntheticSnareDrum,
-}
-
 // What stays the same over a block: fm_amount is squared here, and snappy clamped.
 #[derive(Clone, Copy)]
 struct Settings {
@@ -63,13 +57,6 @@ struct Settings {
     drum_level: f32,
     snare_level: f32,
     increment: f32,
-}
-
-// One turn of the loop: the voice after it, and its sample.
-#[derive(Clone, Copy)]
-struct Turn {
-    voice: SyntheticSnareDrum,
-    sample: f32,
 }
 
 impl SyntheticSnareDrum {
@@ -88,21 +75,14 @@ impl SyntheticSnareDrum {
         noise: 0,
     };
 
-    pub fn init(self, sample_rate_hz: f32) -> Answered
-        ensures number { answer_number result.answer ≡ (spec.init self sample_rate_hz).number }
-        ensures voice { result.voice ≡ (spec.init self sample_rate_hz).state }
+    pub fn init(self, sample_rate_hz: f32) -> Result<Self, Refused<Self>>
+        ensures number { call_number result ≡ (spec.init self sample_rate_hz).number }
+        ensures voice { call_voice result ≡ (spec.init self sample_rate_hz).state }
     {
-        let answer = refusal::ask_sample_rate(sample_rate_hz, Answer::Accepted);
-        match answer {
-            Answer::Refused(_) => Answered {
-                answer,
-                voice: self,
-            },
-            Answer::Accepted => {
-                let voice = self.initialized(sample_rate_hz);
-                Answered { answer, voice }
-            }
-        }
+        ask(is_sample_rate(sample_rate_hz), Refusal::SampleRate).map_err(|refusal| refusal.of(
+            self,
+        ))?;
+        Ok(self.initialized(sample_rate_hz))
     }
 
     fn initialized(self, sample_rate_hz: f32) -> Self
@@ -121,53 +101,35 @@ impl SyntheticSnareDrum {
         }
     }
 
-    pub fn render(self, trigger: bool, knobs: Knobs, out: &mut [f32]) -> Answered
-        ensures number { answer_number result.answer ≡ (render self trigger knobs out.old).number }
-        ensures voice { result.voice ≡ (render self trigger knobs out.old).state }
+    pub fn render(self, trigger: bool, knobs: Knobs, out: &mut [f32]) -> Result<Self, Refused<Self>>
+        ensures number { call_number result ≡ (render self trigger knobs out.old).number }
+        ensures voice { call_voice result ≡ (render self trigger knobs out.old).state }
         ensures out { out.new ≡ (render self trigger knobs out.old).out }
     {
-        let answer = knobs.asked(self.sample_rate_hz, out.len());
-        match answer {
-            Answer::Refused(_) => Answered {
-                answer,
-                voice: self,
-            },
-            Answer::Accepted => {
-                let settings = knobs.settings(self, out.len());
-                let tuned = self.tuned(settings);
-                // Two calls keep `fill` a function of its own: as a part of this one its loop comes out slower by half.
-                if trigger {
-                    let triggered = tuned.triggered(knobs.accent, knobs.decay);
-                    let voice = triggered.fill(settings, out);
-                    return Answered { answer, voice };
-                }
-                let voice = tuned.fill(settings, out);
-                Answered { answer, voice }
-            }
+        knobs
+            .asked(self.sample_rate_hz, out.len())
+            .map_err(|refusal| refusal.of(self))?;
+        let settings = knobs.settings(self, out.len());
+        let mut voice = self.tuned(settings);
+        if trigger {
+            voice = voice.triggered(knobs.accent, knobs.decay);
         }
+        Ok(voice.fill(settings, out))
     }
 
     // `render` as two calls: what it does where its trigger is set, and a block without a trigger.
-    pub fn strike(self, accent: f32, decay: f32) -> Answered
-        ensures number { answer_number result.answer ≡ (spec.strike self accent decay).number }
-        ensures voice { result.voice ≡ (spec.strike self accent decay).state }
+    pub fn strike(self, accent: f32, decay: f32) -> Result<Self, Refused<Self>>
+        ensures number { call_number result ≡ (spec.strike self accent decay).number }
+        ensures voice { call_voice result ≡ (spec.strike self accent decay).state }
     {
-        let answer = ask_strike(self.sample_rate_hz, accent, decay);
-        match answer {
-            Answer::Refused(_) => Answered {
-                answer,
-                voice: self,
-            },
-            Answer::Accepted => {
-                let voice = self.triggered(accent, decay);
-                Answered { answer, voice }
-            }
-        }
+        self.asked(accent, decay)
+            .map_err(|refusal| refusal.of(self))?;
+        Ok(self.triggered(accent, decay))
     }
 
-    pub fn run(self, knobs: Knobs, out: &mut [f32]) -> Answered
-        ensures number { answer_number result.answer ≡ (spec.run self knobs out.old).number }
-        ensures voice { result.voice ≡ (spec.run self knobs out.old).state }
+    pub fn run(self, knobs: Knobs, out: &mut [f32]) -> Result<Self, Refused<Self>>
+        ensures number { call_number result ≡ (spec.run self knobs out.old).number }
+        ensures voice { call_voice result ≡ (spec.run self knobs out.old).state }
         ensures out { out.new ≡ (spec.run self knobs out.old).out }
     {
         self.render(false, knobs, out)
@@ -198,6 +160,17 @@ impl SyntheticSnareDrum {
         }
     }
 
+    // The questions of `strike`.
+    #[tactic(auto, unfolding(crate::specs::SyntheticSnareDrum::strike_refusal))]
+    fn asked(self, accent: f32, decay: f32) -> Result<(), Refusal>
+        ensures { answer_number result ≡ spec.strike_refusal self.sample_rate_hz accent decay }
+    {
+        ask(is_sample_rate(self.sample_rate_hz), Refusal::SampleRate)?;
+        ask(is_unit(accent), Refusal::Accent)?;
+        ask(is_unit(decay), Refusal::Knob)?;
+        Ok(())
+    }
+
     fn triggered(self, accent: f32, decay: f32) -> Self
         ensures { result ≡ spec.triggered self accent decay }
     {
@@ -213,24 +186,17 @@ impl SyntheticSnareDrum {
     }
 
     // The loop over the block.
+    #[inline(never)]
     fn fill(self, settings: Settings, out: &mut [f32]) -> Self
         ensures voice { let n = length out.old in result ≡ after (spec.step settings n) n self }
         ensures out { let n = length out.old in out.new ≡ samples (spec.step settings n) n self }
     {
-        let mut voice = self;
-        let mut i = 0;
-        while i < out.len() {
-            let turn = voice.step(settings);
-            voice = turn.voice;
-            out[i] = turn.sample;
-            i += 1;
-        }
-        voice
+        block::pass(self, out, |voice, _| voice.step(settings))
     }
 
     // One turn of the loop.
-    fn step(self, settings: Settings) -> Turn
-        ensures { (size : ℕ) → spec.step settings size self ≡ turned result }
+    fn step(self, settings: Settings) -> Turn<Self>
+        ensures { (size : ℕ) → result ≡ spec.step settings size self }
     {
         let v = self.enveloped(settings);
         let phase_0 = v.phase[0];
@@ -255,17 +221,16 @@ impl SyntheticSnareDrum {
         let drum_lp = drum.filter;
         let snare_hp = high.filter;
         let snare_lp = low.filter;
-        let voice = SyntheticSnareDrum {
-            phase: [phase_0, phase_1],
-            drum_lp,
-            snare_hp,
-            snare_lp,
-            noise: draw.word,
-            ..v
-        };
         Turn {
-            voice,
             sample: snare + drum.out,
+            next: SyntheticSnareDrum {
+                phase: [phase_0, phase_1],
+                drum_lp,
+                snare_hp,
+                snare_lp,
+                noise: draw.word,
+                ..v
+            },
         }
     }
 
@@ -305,27 +270,21 @@ impl SyntheticSnareDrum {
     }
 }
 
-// The questions of `strike`, the last one first.
-fn ask_strike(sample_rate_hz: f32, accent: f32, decay: f32) -> Answer
-    ensures { answer_number result ≡ spec.strike_refusal sample_rate_hz accent decay }
-{
-    let decay = refusal::ask_knob(decay, Answer::Accepted);
-    let accent = refusal::ask_accent(accent, decay);
-    refusal::ask_sample_rate(sample_rate_hz, accent)
-}
-
 impl Knobs {
-    // The questions of `render`, the last one first.
-    fn asked(self, sample_rate_hz: f32, samples: usize) -> Answer
-        ensures { answer_number result ≡ spec.render_refusal sample_rate_hz self samples }
+    // The questions of `render`.
+    #[tactic(auto, unfolding(crate::specs::SyntheticSnareDrum::render_refusal))]
+    fn asked(self, sample_rate_hz: f32, samples: usize) -> Result<(), Refusal>
+        ensures number { answer_number result ≡ spec.render_refusal sample_rate_hz self samples }
+        ensures short { OnOk result (samples ≤ 16384) }
     {
-        let snappy = refusal::ask_knob(self.snappy, Answer::Accepted);
-        let decay = refusal::ask_knob(self.decay, snappy);
-        let fm_amount = refusal::ask_knob(self.fm_amount, decay);
-        let accent = refusal::ask_accent(self.accent, fm_amount);
-        let f0 = refusal::ask_frequency(self.f0, accent);
-        let length = refusal::ask_block_length(samples, f0);
-        refusal::ask_sample_rate(sample_rate_hz, length)
+        ask(is_sample_rate(sample_rate_hz), Refusal::SampleRate)?;
+        ask(is_block_length(samples), Refusal::BlockLength)?;
+        ask(is_frequency(self.f0), Refusal::Frequency)?;
+        ask(is_unit(self.accent), Refusal::Accent)?;
+        ask(is_unit(self.fm_amount), Refusal::Knob)?;
+        ask(is_unit(self.decay), Refusal::Knob)?;
+        ask(is_unit(self.snappy), Refusal::Knob)?;
+        Ok(())
     }
 
     // The lines before the loop.

@@ -12,6 +12,6 @@ pub returns-then-remaining_samples-eq0 : goal.returns-then-remaining_samples-eq0
 unfolding fm_pulse round of_bits
 returns-then-remaining_samples-eq0 c = rw (ne_eqb _ _ c.if-self-eq0.false, eq-eqb _ _ c.if-remaining_samples-eq0.true)
 
-pub returns : goal.returns
+pub returns-else-remaining_samples-eq0 : goal.returns-else-remaining_samples-eq0
 unfolding fm_pulse round of_bits
-returns c = rw (ne_eqb _ _ c.if-self-eq0.false, ne_eqb _ _ c.if-remaining_samples-eq0.false)
+returns-else-remaining_samples-eq0 c = rw (ne_eqb _ _ c.if-self-eq0.false, ne_eqb _ _ c.if-remaining_samples-eq0.false)

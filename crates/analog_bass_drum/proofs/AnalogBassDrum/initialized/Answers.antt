@@ -5,4 +5,4 @@ use Rattle.analog_bass_drum.proofs.AnalogBassDrum.initialized.Goals as goal
 
 pub returns : goal.returns
 unfolding initialized round of_bits
-returns c = rw (c.truncate_u32-2.ensures, c.truncate_u32.ensures, c.init-resonator.ensures)
+returns c = cc

@@ -5,4 +5,4 @@ use Rattle.analog_bass_drum.proofs.Knobs.settings.Goals as goal
 
 pub returns : goal.returns
 unfolding settings round of_bits
-returns c = rw (c.minimum_number.ensures.value, c.semitones_to_ratio-2.ensures.value, c.semitones_to_ratio.ensures.value)
+returns c = cc

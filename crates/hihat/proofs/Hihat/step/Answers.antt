@@ -1,7 +1,8 @@
 -- Each pass takes the turn that the one before it left.
 use Rattle.std.proofs.Common.{◌≡◌, ap, ◌∙◌}
 use lib.Ieee.{Float}
-use Rattle.block.specs.Block.{Turn, source}
+use Rattle.block.specs.declared.Turn.{Turn}
+use Rattle.block.specs.Block.{source}
 use Rattle.block.specs.OnePass.{then}
 use Rattle.hihat.specs.Hihat.{metallic, colored, clocked, amplified, high_passed}
 use Rattle.hihat.specs.OnePass.{step}
@@ -17,7 +18,7 @@ returns c = λ x.
     let args = c.args in
     let b = args.settings in
     let s = args.self in
-    let second = through (source (metallic b)) colored s x _ _ c.metallic.ensures c.colored.ensures in
-    let third = through (two b) (clocked b) s x _ _ second c.clocked.ensures in
-    let fourth = through (three b) (amplified b) s x _ _ third c.amplified.ensures in
+    let second = through (source (metallic b)) colored s x _ _ c.metallic-metallic.ensures c.colored-colored.ensures in
+    let third = through (two b) (clocked b) s x _ _ second c.clocked-clocked.ensures in
+    let fourth = through (three b) (amplified b) s x _ _ third c.amplified-amplified.ensures in
     through (four b) high_passed s x _ _ fourth c.high_passed.ensures

@@ -1,8 +1,9 @@
--- The definition's arm of a trigger that is set.
+-- The literals agree with the definition's by computing.
+use Rattle.std.proofs.Common.{refl}
 use lib.Ieee.{round, of_bits}
 use Rattle.hihat.specs.Hihat.{triggered}
 use Rattle.hihat.proofs.Hihat.triggered.Goals as goal
 
-pub returns-then-trigger : goal.returns-then-trigger
+pub returns : goal.returns
 unfolding triggered round of_bits
-returns-then-trigger c = rw c.if-trigger.true
+returns c = refl

@@ -1,13 +1,14 @@
--- The loop's law of `block`.
-use native.Mathlib.Omega.{arith}
-use Rattle.block.proofs.Blocks.{turn, end_source}
+-- The loop of `block`, which is a source's.
+use Rattle.std.proofs.Common.{rules, length, ◌∙◌}
+use Rattle.block.proofs.Blocks.{scan_source, scanned-source}
+use Rattle.block.specs.Block.{source}
+use Rattle.synthetic_snare_drum.specs.SyntheticSnareDrum.{step}
 use Rattle.synthetic_snare_drum.proofs.SyntheticSnareDrum.fill.Goals as goal
 
 pub returns : goal.returns
-returns c = let p = end_source _ _ _ _ _ _ c.loop-i.invariant c.loop-i-test.false in
-    record { voice = p.0; out = p.1 }
-
-pub loop-i-preserved : goal.loop-i-preserved
-loop-i-preserved c =
-    let l = c.loop-i in
-    rw (c.step-turn.ensures _) at (turn _ _ _ _ _ _ _ l.invariant (omega (arith, l.invariant.long)))
+returns c =
+    let turn = step c.args.settings (length c.args.out.now) in
+    record {
+      voice = c.pass.ensures.state (source turn) (λ s x t p. search rules) ∙ scanned-source turn _ _;
+      out = c.pass.ensures.out (source turn) (λ s x t p. search rules) ∙ scan_source turn _ _;
+    }

@@ -1,14 +1,14 @@
--- The loop's law of `block`, over the increments of f0.
-use Rattle.std.proofs.Common.{arith}
-use Rattle.block.proofs.Blocks.{turn as going, end_source}
+-- The loop of `block`, which is a source's, over the increments of f0.
+use Rattle.std.proofs.Common.{rules, ◌∙◌}
+use Rattle.block.proofs.Blocks.{scan_source, scanned-source}
+use Rattle.block.specs.Block.{source}
+use Rattle.hihat.specs.SquareNoise.{turn}
 use Rattle.hihat.proofs.square_noise.SquareNoise.render.Goals as goal
 
 pub returns : goal.returns
 returns c =
-    let p = end_source _ _ _ _ _ _ c.loop-i.invariant c.loop-i-test.false in
-    rw (← c.increments-increment.ensures) (record { noise = p.0; out = p.1 })
-
-pub loop-i-preserved : goal.loop-i-preserved
-loop-i-preserved c =
-    let l = c.loop-i in
-    rw (c.level.ensures, c.advanced-noise.ensures) (going _ _ _ _ _ _ _ l.invariant (omega (arith, l.invariant.long)))
+    let step = turn c.increments-increment.result in
+    rw (← c.increments-increment.ensures) record {
+      noise = c.pass.ensures.state (source step) (λ s x t p. search rules) ∙ scanned-source step _ _;
+      out = c.pass.ensures.out (source step) (λ s x t p. search rules) ∙ scan_source step _ _;
+    }

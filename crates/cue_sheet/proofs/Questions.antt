@@ -1,13 +1,15 @@
 -- What a line that stands for a cue shows: that every question is passed.
-use Rattle.std.proofs.Common.{◌≡◌, ℕ, ◌<◌, ◌≤◌, Bool, true, false, cond, eqb, ltb, leb, List, refl, arith, ltb-true, leb-true}
-use Prim.Native.Char.{code}
+use Rattle.std.proofs.Common.{◌≡◌, ℕ, ◌<◌, ◌≤◌, Bool, true, false, ltb, leb, List, Option, Some, None, refl, arith, ltb-true, leb-true}
 use lib.Ieee.{Float}
 use Rattle.refusal.specs.Refusal.{is_frequency, is_unit, is_bass_decay}
 use Rattle.refusal.proofs.ByNumber as ByNumber
-use Rattle.cue_sheet.specs.Answer.{number, Told, says, ask}
-use Rattle.cue_sheet.specs.CueLine.{Strike, is_decay, cue_of, read_fields, read_cue}
+use Rattle.cue_sheet.specs.Answer.{number, Told, says, ◌>>=◌, ◌>>◌, ask, ask_for}
+use Rattle.cue_sheet.specs.Fields.{read_fields}
+use Rattle.cue_sheet.specs.CueLine.{is_decay, cue, cue_of, read_cue}
+use Rattle.cue_sheet.specs.declared.line.Strike.{Strike}
 use Rattle.cue_sheet.specs.declared.answer.SheetRefusal.{SheetRefusal}
 use Rattle.cue_sheet.specs.declared.answer.SheetRefusal.TheVariants.{Knobs, FirstLine, CueLine, CueStart, CueCount, BufferLength}
+use Rattle.cue_sheet.specs.declared.voice.Voice.{Voice}
 use Rattle.cue_sheet.specs.declared.line.Fields.{Fields}
 use Rattle.cue_sheet.specs.declared.line.Cue.{Cue}
 use Rattle.cue_sheet.specs.declared.line.Cue.TheVariants.{Bass, Snare, SyntheticSnare, Hihat}
@@ -21,9 +23,17 @@ numbered CueStart = omega arith
 numbered CueCount = omega arith
 numbered BufferLength = omega arith
 
-pub passed : {A : Type 0} (q : Bool) (n : ℕ) (next : Told A) {x : A} → ask q n next ≡ says x → (q ≡ true) × (next ≡ says x)
+passed : {A : Type 0} (q : Bool) (n : ℕ) (next : Told A) {x : A} → (ask q n >> next) ≡ says x → (q ≡ true) × (next ≡ says x)
 passed true n next h = (refl, h)
 passed false n next h = let never : ◌≡◌ {A = ℕ} 0 1 = cc in absurd (omega arith)
+
+pub asked_for : {A : Type 0} (o : Option A) (n : ℕ) {x : A} → ask_for o n ≡ says x → o ≡ Some x
+asked_for (Some y) n h = cc
+asked_for None n h = let never : ◌≡◌ {A = ℕ} 0 1 = cc in absurd (omega arith)
+
+read : {A B : Type 0} (o : Option A) (n : ℕ) (next : A → Told B) {x : B} → (ask_for o n >>= next) ≡ says x → (y : A) × (o ≡ Some y) × (next y ≡ says x)
+read (Some y) n next h = (y, refl, h)
+read None n next h = let never : ◌≡◌ {A = ℕ} 0 1 = cc in absurd (omega arith)
 
 -- ---- knobs that have passed their questions; `decays` is that of decay
 pub record KnobsIn (decays : Float → Bool) (accent f0 a decay c : Float) : Type 0 where
@@ -39,35 +49,30 @@ KnobsOf (Snare accent f0 tone decay snappy) = KnobsIn is_unit accent f0 tone dec
 KnobsOf (SyntheticSnare accent f0 fm_amount decay snappy) = KnobsIn is_unit accent f0 fm_amount decay snappy
 KnobsOf (Hihat accent f0 tone decay noisiness) = KnobsIn is_unit accent f0 tone decay noisiness
 
-knobs_of : (f : Fields) → KnobsIn (is_decay f.voice) f.accent f.f0 f.a f.decay f.c → KnobsOf (cue_of f)
-unfolding is_decay cue_of
-knobs_of f = go (eqb f.voice (code "b")) (eqb f.voice (code "s")) (eqb f.voice (code "y"))
-  where
-    go : (b s y : Bool) → KnobsIn (λ x. cond b (is_bass_decay x) (is_unit x)) f.accent f.f0 f.a f.decay f.c
-        → KnobsOf (cond b (Bass f.accent f.f0 f.a f.decay f.c)
-        (cond s (Snare f.accent f.f0 f.a f.decay f.c)
-        (cond y (SyntheticSnare f.accent f.f0 f.a f.decay f.c) (Hihat f.accent f.f0 f.a f.decay f.c))))
-    go true s y k = k
-    go false true y k = k
-    go false false true k = k
-    go false false false k = k
+knobs_of : (voice : Voice) (accent f0 a decay c : Float) → KnobsIn (is_decay voice) accent f0 a decay c → KnobsOf (cue voice accent f0 a decay c)
+unfolding is_decay
+knobs_of Voice.Bass accent f0 a decay c k = k
+knobs_of Voice.Snare accent f0 a decay c k = k
+knobs_of Voice.SyntheticSnare accent f0 a decay c k = k
+knobs_of Voice.Hihat accent f0 a decay c k = k
 
 -- ---- a line that stands for a cue has passed every question, and says what its fields say
 pub record Passed (length cues least_start : ℕ) (line : List ℕ) (s : Strike) : Type 0 where
   pub few : cues < 64
-  pub formed : (read_fields line).formed ≡ true
-  pub read : s ≡ record { start = (read_fields line).start; cue = cue_of (read_fields line) }
+  pub fields : Fields
+  pub formed : read_fields line ≡ Some fields
+  pub read : s ≡ record { start = fields.start; cue = cue_of fields }
   pub inside : s.start < length
   pub least : least_start ≤ s.start
   pub knobs : KnobsOf s.cue
 
 pub cue-passed : (length cues least_start : ℕ) (line : List ℕ) {s : Strike} → read_cue length cues least_start line ≡ says s → Passed length cues least_start line s
-unfolding read_cue
+unfolding read_cue cue_of
 cue-passed length cues least_start line {s} h =
-    let f = read_fields line in
     let few = passed (ltb cues 64) 10 _ h in
-    let formed = passed f.formed 8 _ few.1 in
-    let inside = passed (ltb f.start length) 9 _ formed.1 in
+    let formed = read (read_fields line) 8 _ few.1 in
+    let f : Fields = formed.0 in
+    let inside = passed (ltb f.start length) 9 _ formed.2 in
     let least = passed (leb least_start f.start) 9 _ inside.1 in
     let frequency = passed (is_frequency f.f0) 3 _ least.1 in
     let accent = passed (is_unit f.accent) 4 _ frequency.1 in
@@ -77,11 +82,12 @@ cue-passed length cues least_start line {s} h =
     let same : record { start = f.start; cue = cue_of f } ≡ s = cc c.1 in
     rw (← same) record {
       few = ltb-true cues 64 few.0;
-      formed = formed.0;
+      fields = f;
+      formed = formed.1;
       read = refl;
       inside = ltb-true f.start length inside.0;
       least = leb-true least_start f.start least.0;
       knobs =
-          knobs_of f
+          knobs_of f.voice f.accent f.f0 f.a f.decay f.c
           record { frequency = frequency.0; accent_in = accent.0; a_in = a.0; decay_in = decay.0; c_in = c.0 };
     }

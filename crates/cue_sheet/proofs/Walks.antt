@@ -1,33 +1,34 @@
 -- The walk over the lines of a sheet, of whoever judges it and of whoever goes over its cues.
-use Rattle.std.proofs.Common.{◌≡◌, ℕ, ◌+◌, ◌-◌, ◌<◌, ◌≤◌, max, List, [], ◌∷◌, get_or, take, drop, sym, refl, ap, ◌∙◌, arith}
-use native.Mathlib.Decide.{dec_lt}
-use lib.ListN as List
-use Rattle.text.specs.Read.{lines, line_at}
-use Rattle.text.proofs.Lines.{line_inside, line_less, line_next, lines_over}
+use Rattle.std.proofs.Common.{◌≡◌, ℕ, ◌+◌, ◌<◌, false, List, [], ◌∷◌, length, drop, sym, refl, arith, length-drop}
+use Rattle.std.specs.Prelude.{Result, ◌==◌}
+use borrow.Author.Tests.{eqb-false}
+use Rattle.text.specs.Read.{lines, first_line}
+use Rattle.text.proofs.Lines.{line_next}
 use Rattle.cue_sheet.specs.Answer.{says, refused}
-use Rattle.cue_sheet.specs.CueLine.{Strike}
-use Rattle.cue_sheet.specs.Sheet.{on_told, read_line, next, strikes_from}
-use Rattle.cue_sheet.specs.declared.Walk.{Walk}
-
--- ---- the line at a place
-module _ (s : List ℕ) (at e : ℕ) (ends : e ≡ at + List.length (line_at at s)) where
-  pub line_part : ((at ≤ e) × (e ≤ max at (List.length s))) × (take (e - at) (drop at s) ≡ line_at at s)
-  unfolding line_at
-  line_part = go (dec_lt at (List.length s))
-    where
-      go : Dec (at < List.length s) → ((at ≤ e) × (e ≤ max at (List.length s))) × (take (e - at) (drop at s) ≡ line_at at s)
-      go (yes more) =
-          let first = ap (λ (ls : List (List ℕ)). get_or ls 0 []) (line_next s at e ends more) in
-          ((omega arith, omega (arith, line_inside s at e ends more)), sym first)
-      go (no over) =
-          let none : line_at at s ≡ [] = rw (lines_over s at (omega arith)) in
-          let same : e - at ≡ 0 = omega (arith, ap List.length none) in
-          ((omega arith, omega (arith, ap List.length none)), rw (none, same))
+use Rattle.cue_sheet.specs.declared.line.Strike.{Strike}
+use Rattle.cue_sheet.specs.Sheet.{refused_at, on_told, read_line, next, judge_from, strikes_from}
+use Rattle.cue_sheet.specs.Walks.{told_at, Walked}
+use Rattle.cue_sheet.specs.declared.walk.Walk.{Walk}
+use Rattle.cue_sheet.specs.declared.walk.RefusedAt.{RefusedAt}
+use Rattle.cue_sheet.specs.declared.walk.CueLines.{CueLines}
 
 -- the lines after the first
-pub rest : (sheet : List ℕ) → drop 1 (lines sheet) ≡ lines (drop (List.length (line_at 0 sheet)) sheet)
-rest [] = ap (drop 1) (lines_over [] 0 (omega arith)) ∙ sym (lines_over [] (List.length (line_at 0 [])) (omega arith))
-rest (x ∷ xs) = rw (line_next (x ∷ xs) 0 (List.length (line_at 0 (x ∷ xs))) (omega arith) (omega arith))
+pub rest : (sheet : List ℕ) → drop 1 (lines sheet) ≡ lines (drop (length (first_line sheet)) sheet)
+unfolding lines first_line
+rest [] = refl
+rest (x ∷ xs) = rw (line_next (x ∷ xs) (omega arith)).1
+
+pub over : (s : List ℕ) → length s ≡ 0 → lines s ≡ []
+unfolding lines first_line
+over [] h = refl
+over (x ∷ xs) h = absurd (omega arith)
+
+pub some : (s : List ℕ) → false ≡ (length s == 0) → 0 < length s
+some s e = let other = eqb-false (length s) 0 (sym e) in omega (arith, other)
+
+-- less is left after a line
+pub less : (s : List ℕ) → 0 < length s → length (drop (length (first_line s)) s) < length s
+less s more = omega (arith, length-drop (length (first_line s)) s, (line_next s more).0)
 
 -- ---- one line after the other
 module _ (w : Walk) (line : List ℕ) where
@@ -44,24 +45,12 @@ module _ (w : Walk) (line : List ℕ) where
   unfolding next on_told
   least_raised e = rw e
 
-module _ (sheet : List ℕ) (w : Walk) (more : w.place < List.length sheet) where
-  abbrev here : List ℕ
-  here = line_at w.place sheet
+-- a step of the walk: the judgment from there on, and the cues, that of the line first, if it is one
+module _ {s t : CueLines} {line : Result Strike RefusedAt} (step : Walked s line t) where
+  pub judged : judge_from s.walk (lines s.rest.now) ≡ on_told (told_at line) (λ n. refused_at n s.walk.line) λ _. judge_from t.walk (lines t.rest.now)
+  unfolding judge_from
+  judged = rw ((line_next s.rest.now step.more).1, step.told, step.walk, step.rest)
 
-  pub next_less : List.length sheet - (next w here).place < List.length sheet - w.place
-  unfolding next
-  next_less = line_less sheet w.place (next w here).place refl more
-
-  pub split : lines (drop w.place sheet) ≡ here ∷ lines (drop (next w here).place sheet)
-  unfolding next
-  split = rw (line_next sheet w.place (next w here).place refl more, (line_part sheet w.place (next w here).place refl).1)
-
-  -- the cues from here on: that of the line, if it is one, and those after it
-  pub line_struck : strikes_from w (lines (drop w.place sheet))
-      ≡ on_told (read_line w here) (λ _ strikes. strikes) ◌∷◌ (strikes_from (next w here) (lines (drop (next w here).place sheet)))
+  pub struck : strikes_from s.walk (lines s.rest.now) ≡ on_told (told_at line) (λ _ strikes. strikes) ◌∷◌ (strikes_from t.walk (lines t.rest.now))
   unfolding strikes_from
-  line_struck = rw split
-
-pub none_struck : (sheet : List ℕ) (w : Walk) → List.length sheet ≤ w.place → strikes_from w (lines (drop w.place sheet)) ≡ []
-unfolding strikes_from
-none_struck sheet w over = rw (lines_over sheet w.place over)
+  struck = rw ((line_next s.rest.now step.more).1, step.told, step.walk, step.rest)

@@ -1,8 +1,6 @@
 -- What a line of a sheet answers: what it says, or the number of the first question that it does not pass. Definitions only.
-use Rattle.std.specs.Prelude.{ℕ, Bool, true, false}
+use Rattle.std.specs.Prelude.{ℕ, Bool, true, false, Option, Some, None}
 use Rattle.refusal.specs.Refusal as Refusal
-use Rattle.text.specs.declared.read.Number.{Number}
-use Rattle.text.specs.declared.read.Number.TheVariants.{Value, Invalid}
 use Rattle.cue_sheet.specs.declared.answer.SheetRefusal.{SheetRefusal}
 use Rattle.cue_sheet.specs.declared.answer.SheetRefusal.TheVariants.{Knobs, FirstLine, CueLine, CueStart, CueCount, BufferLength}
 
@@ -19,16 +17,21 @@ pub data Told (A : Type 0) : Type 0 where
   says : A → Told A
   refused : ℕ → Told A
 
--- a question with its number, before what is said where it is passed
-abbrev pub ask : {A : Type 0} → Bool → ℕ → Told A → Told A
-ask true n next = next
-ask false n next = refused n
+infixl 10 ◌>>=◌ ◌>>◌
+-- what is asked next: the first question that is not passed decides
+abbrev pub ◌>>=◌ : {A B : Type 0} → Told A → (A → Told B) → Told B
+says x >>= f = f x
+refused n >>= f = refused n
 
--- ---- a number that is read, and 0 where it is malformed
-abbrev pub valid : Number → Bool
-valid (Value n) = true
-valid Invalid = false
+abbrev pub ◌>>◌ : {A B : Type 0} → Told A → Told B → Told B
+t >> u = t >>= λ _. u
 
-abbrev pub value : Number → ℕ
-value (Value n) = n
-value Invalid = 0
+-- a question with its number
+abbrev pub ask : Bool → ℕ → Told (Unit {0})
+ask true n = says tt
+ask false n = refused n
+
+-- the question whether something can be read, which says what is read
+abbrev pub ask_for : {A : Type 0} → Option A → ℕ → Told A
+ask_for (Some x) n = says x
+ask_for None n = refused n

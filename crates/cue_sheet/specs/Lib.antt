@@ -1,5 +1,6 @@
 -- The definitions of `cue_sheet`.
 pub mod Answer
+pub mod Fields
 pub mod CueLine
 pub mod Sheet
-pub mod Cursor
+pub mod Walks

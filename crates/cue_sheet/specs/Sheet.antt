@@ -1,32 +1,30 @@
 -- A cue sheet: its first line, the walk over the lines after it, the judgment, and the cues. Definitions only.
-use Rattle.std.specs.Prelude.{ℕ, ◌+◌, ◌%◌, ◌^◌, ◌&&◌, List, [], ◌∷◌, drop, nat_le}
-use Rattle.std.proofs.Math.ListN as List
-use Rattle.text.specs.Read.{ended, body, field, has_fields, decimal, lines, line_at}
-use Rattle.cue_sheet.specs.Answer.{number, Told, says, refused, ask, valid, value}
-use Rattle.cue_sheet.specs.CueLine.{Strike, read_cue}
+use Rattle.std.specs.Prelude.{ℕ, ◌+◌, ◌%◌, ◌^◌, ◌&&◌, List, [], ◌∷◌, drop, nat_le, cond, Option, Some, None, Result, Ok, Err}
+use Rattle.text.specs.Read.{ended, body, field, has_fields, decimal, lines, first_line}
+use Rattle.cue_sheet.specs.Answer.{number, Told, says, refused, ask_for}
+use Rattle.cue_sheet.specs.Fields.{◌>>=◌}
+use Rattle.cue_sheet.specs.CueLine.{read_cue}
+use Rattle.cue_sheet.specs.declared.line.Strike.{Strike}
 use Rattle.cue_sheet.specs.declared.Head.{Head}
-use Rattle.cue_sheet.specs.declared.FirstLine.{FirstLine}
-use Rattle.cue_sheet.specs.declared.Walk.{Walk}
-use Rattle.cue_sheet.specs.declared.Judgment.{Judgment}
-use Rattle.cue_sheet.specs.declared.Judgment.TheVariants.{Accepted, Refused}
+use Rattle.cue_sheet.specs.declared.Accepted.{Accepted}
+use Rattle.cue_sheet.specs.declared.walk.RefusedAt.{RefusedAt}
+use Rattle.cue_sheet.specs.declared.walk.Walk.{Walk}
 
--- ---- the first line, `rate,length`: a rate from 16000 to 96000, and a length from 0 to 16384; a malformed rate counts as 0
+-- ---- the first line, `rate,length`: a rate from 16000 to 96000, and a length from 0 to 16384
 
--- each case of the enum
-abbrev pub told_first : FirstLine → Told Head
-told_first (FirstLine.Head head) = says head
-told_first FirstLine.Invalid = refused 7
+unfoldable pub head_of : List ℕ → List ℕ → Option Head
+head_of rate length = do
+  rate ← decimal 96000 rate
+  length ← decimal 16384 length
+  cond (nat_le 16000 rate) (Some (record { rate = rate; length = length })) None
 
-unfoldable pub read_first_line : List ℕ → Told Head
-read_first_line line =
-    let rate = value (decimal 96000 (field 0 (body line))) in
-    let length = decimal 16384 (field 1 (body line)) in
-    ask (ended line && has_fields 2 (body line) && (nat_le 16000 rate && valid length)) 7 (says (record { rate = rate; length = value length }))
+unfoldable pub read_first_line : List ℕ → Option Head
+read_first_line line = cond (ended line && has_fields 2 (body line)) (head_of (field 0 (body line)) (field 1 (body line))) None
 
 -- ---- the walk over the lines after it
 
-abbrev pub begin : Head → List ℕ → Walk
-begin head first = record { head = head; place = List.length first; line = 2; cues = 0; least_start = 0 }
+abbrev pub begin : Head → Walk
+begin head = record { head = head; line = 2; cues = 0; least_start = 0 }
 
 abbrev pub read_line : Walk → List ℕ → Told Strike
 read_line w line = read_cue w.head.length w.cues w.least_start line
@@ -40,7 +38,6 @@ on_told (refused n) otherwise then = otherwise n
 unfoldable pub next : Walk → List ℕ → Walk
 next w line = record {
   head = w.head;
-  place = w.place + List.length line;
   line = (w.line + 1) % 2 ^ 32;
   cues = on_told (read_line w line) (λ _. w.cues) λ _. w.cues + 1;
   least_start = on_told (read_line w line) (λ _. w.least_start) λ s. s.start + 1;
@@ -51,10 +48,10 @@ pub data SheetAnswer : Type 0 where
   accepted : Head → ℕ → SheetAnswer
   refused_at : ℕ → ℕ → SheetAnswer
 
--- each case of the enum
-abbrev pub answer : Judgment → SheetAnswer
-answer (Accepted head cues) = accepted head cues
-answer (Refused refusal line) = refused_at (number refusal) line
+-- each case of the result
+abbrev pub answer : Result Accepted RefusedAt → SheetAnswer
+answer (Ok a) = accepted a.head a.cues
+answer (Err e) = refused_at (number e.refusal) e.line
 
 unfoldable pub judge_from : Walk → List (List ℕ) → SheetAnswer
 unfolding on_told
@@ -63,7 +60,7 @@ judge_from w (line ∷ lines) = on_told (read_line w line) (λ n. refused_at n w
 
 unfoldable pub judge : List ℕ → SheetAnswer
 judge sheet =
-    on_told (read_first_line (line_at 0 sheet)) (λ n. refused_at n 1) λ head. judge_from (begin head (line_at 0 sheet)) (drop 1 (lines sheet))
+    on_told (ask_for (read_first_line (first_line sheet)) 7) (λ n. refused_at n 1) λ head. judge_from (begin head) (drop 1 (lines sheet))
 
 -- ---- the cues, in their order: of a refused sheet, those of the lines that pass
 
@@ -72,4 +69,4 @@ strikes_from w [] = []
 strikes_from w (line ∷ lines) = on_told (read_line w line) (λ _ strikes. strikes) ◌∷◌ (strikes_from (next w line) lines)
 
 unfoldable pub strikes : Head → List ℕ → List Strike
-strikes head sheet = strikes_from (begin head (line_at 0 sheet)) (drop 1 (lines sheet))
+strikes head sheet = strikes_from (begin head) (drop 1 (lines sheet))

@@ -1,6 +1,7 @@
 // The sheet's own refusals, beside those of the voices' calls.
 ghost use Rattle.std.specs.Prelude.{◌≡◌};
 ghost use Rattle.cue_sheet.specs.Answer as spec;
+ghost use Rattle.cue_sheet.specs.declared.answer.SheetRefusal.TheVariants.{Knobs};
 
 use refusal::Refusal;
 
@@ -15,12 +16,21 @@ pub enum SheetRefusal {
     BufferLength,
 }
 
-impl SheetRefusal {
-    pub fn number(self) -> u32
-        ensures { result ≡ spec.number self }
-    {
-        match self {
-            SheetRefusal::Knobs(refusal) => refusal.number(),
+impl From<Refusal> for SheetRefusal {
+    ghost from_gives = { λ voices sheets. sheets ≡ Knobs voices };
+
+    fn from(knobs: Refusal) -> Self {
+        SheetRefusal::Knobs(knobs)
+    }
+}
+
+// The number that a user sees.
+impl From<SheetRefusal> for u32 {
+    ghost from_gives = { λ refusal number. number ≡ spec.number refusal };
+
+    fn from(refusal: SheetRefusal) -> u32 {
+        match refusal {
+            SheetRefusal::Knobs(refusal) => refusal.into(),
             SheetRefusal::FirstLine => 7,
             SheetRefusal::CueLine => 8,
             SheetRefusal::CueStart => 9,

@@ -1,101 +1,107 @@
--- The search for a byte, and the lines of a text, each with its end (10), walked one after the other.
-use Prim.Native.Nat.{ℕ, suc, ◌+◌, ◌-◌, ◌≤◌, ◌<◌, min}
-use native.Mathlib.Nat.{not-suc-le-zero}
-use native.Mathlib.Numerals.{add-one}
-use native.Mathlib.Omega.{arith}
-use native.Mathlib.Decide.{dec_le}
-use mathlib.Core.Path.{◌≡◌, refl, sym, ap, ◌∙◌}
-use mathlib.Core.Bool.{Bool, true, false, cond}
-use mathlib.Core.List.{List, [], ◌∷◌}
-use lib.Dec.{eqb}
-use lib.ListN.{length, get_or, take, drop, drop_of_length-le, length-take, length-drop}
-use lib.Seq.{drop-cons, drop-drop, take_all}
-use borrow.Author.Tests.{eq-eqb, ne_eqb}
-use Rattle.text.specs.Read.{attach, lines, line_at, index_of}
+-- The first line of a text, with its line end, and those after it; and the first field of a line, cut at its first comma.
+use Rattle.std.proofs.Common.{◌≡◌, ◌⊎◌, inl, inr, ℕ, zero, suc, ◌+◌, ◌-◌, ◌<◌, ◌≤◌, Bool, true, false, not, cond, eqb, ltb, List, [], ◌∷◌, get_or, length, take, drop, Option, Some, None, position, refl, sym, ap, ◌∙◌, arith, add-one, ltb-true, ltb-false, lt-ltb, le-ltb, eqb-true, length-take, length-take-le, length-drop}
+use Rattle.std.specs.List.{position_or_len, slice_split, onto_first}
+use Rattle.std.proofs.lemmas.List.Splits.{slice_split_first, slice_split_none, length-slice_split}
+use Rattle.std.proofs.lemmas.List.Sums.{fails_before_first, position_or_len_is}
+use Rattle.std.proofs.lemmas.Option.{cond_some}
+use lib.Seq.{take_all}
+use borrow.Author.Tests.{eqb-false}
+use Rattle.text.specs.Read.{lines, first_line, fields}
 
--- ---- from place i the first b lies where it does from place at
-module _ (s : List ℕ) (at b i : ℕ) (g : at + index_of b (drop at s) ≡ i + index_of b (drop i s)) where
-  pub over : length s ≤ i → i ≡ at + index_of b (drop at s)
-  unfolding index_of
-  over h = sym (g ∙ rw (drop_of_length-le s {i = i} h) (omega arith))
-
-  pub here : i < length s → get_or s i 0 ≡ b → i ≡ at + index_of b (drop at s)
-  unfolding index_of
-  here h e = sym (g ∙ rw (drop-cons s i 0 h, eq-eqb (get_or s i 0) b e) (omega arith))
-
-  pub on : i < length s → (get_or s i 0 ≡ b → ⊥) → at + index_of b (drop at s) ≡ (i + 1) + index_of b (drop (i + 1) s)
-  unfolding index_of
-  on h e = g ∙ rw (drop-cons s i 0 h, ne_eqb (get_or s i 0) b e, add-one i) (omega arith)
-
-pub index_of_le : (b : ℕ) (l : List ℕ) → index_of b l ≤ length l
-unfolding index_of
-index_of_le b [] = omega arith
-index_of_le b (x ∷ xs) = go (eqb x b) (index_of_le b xs)
-  where
-    go : (t : Bool) → index_of b xs ≤ length xs → cond t 0 (suc (index_of b xs)) ≤ suc (length xs)
-    go true h = omega arith
-    go false h = omega arith
-
--- ---- lines
-
--- the first k bytes of a text as its first line
-abbrev cut : ℕ → List ℕ → List (List ℕ)
-cut k l = take k l ∷ lines (drop k l)
+abbrev end_at : List ℕ → ℕ
+end_at l = position_or_len (λ x. eqb x 10) l
 
 -- the first line end closes the first line; where there is none, that is all of the text
-opened : (l : List ℕ) → 0 < length l → lines l ≡ cut (suc (index_of 10 l)) l
-unfolding lines attach index_of
-opened [] h = absurd (not-suc-le-zero h)
+opened : (l : List ℕ) → 0 < length l → lines l ≡ take (suc (end_at l)) l ∷ lines (drop (suc (end_at l)) l)
+unfolding lines
+opened [] h = absurd (omega arith)
 opened (x ∷ xs) h = go (eqb x 10) xs (opened xs)
   where
-    go : (t : Bool) (xs : List ℕ) → (0 < length xs → lines xs ≡ cut (suc (index_of 10 xs)) xs)
-        → cond t ((x ∷ []) ∷ lines xs) (attach x (lines xs)) ≡ cut (suc (cond t 0 (suc (index_of 10 xs)))) (x ∷ xs)
+    go : (t : Bool) (xs : List ℕ) → (0 < length xs → lines xs ≡ take (suc (end_at xs)) xs ∷ lines (drop (suc (end_at xs)) xs))
+        → cond t ((x ∷ []) ∷ lines xs) (onto_first x (lines xs))
+        ≡ take (suc (cond (not t) (1 + end_at xs) 0)) (x ∷ xs) ∷ lines (drop (suc (cond (not t) (1 + end_at xs) 0)) (x ∷ xs))
     go true xs e = refl
     go false [] e = refl
-    go false (y ∷ ys) e = ap (attach x) (e (omega arith))
+    go false (y ∷ ys) e = let one : 1 + end_at (y ∷ ys) ≡ suc (end_at (y ∷ ys)) = omega arith in rw one (ap (onto_first x) (e (omega arith)))
 
-pub lines_over : (s : List ℕ) (at : ℕ) → length s ≤ at → lines (drop at s) ≡ []
-unfolding lines
-lines_over s at h = rw (drop_of_length-le s {i = at} h) refl
+-- ---- the place of a byte that is there, and of one that is not
+module _ (p : ℕ → Bool) (l : List ℕ) where
+  place_of : {k : ℕ} → Some k ≡ position p l → (position_or_len p l ≡ k) × (k < length l)
+  place_of {k} e = let f = cond_some (ltb (position_or_len p l) (length l)) (position_or_len p l) k (sym e) in (f.1, rw f.1 at (ltb-true _ _ f.0))
 
--- a line ends at its end, or where the text ends
-line_length : (at : ℕ) (s : List ℕ) → length (line_at at s) ≡ min (suc (index_of 10 (drop at s))) (length s - at)
-unfolding line_at
-line_length at s = go (dec_le (length s) at)
-  where
-    go : Dec (length s ≤ at) → length (line_at at s) ≡ min (suc (index_of 10 (drop at s))) (length s - at)
-    go (yes h) = rw (lines_over s at h) (omega arith)
-    go (no h) = rw (opened (drop at s) (omega (arith, length-drop at s)), length-take, length-drop)
-
--- ---- `line_end`: e is the place of the first line end from at on
-module _ (s : List ℕ) (at e : ℕ) (found : e ≡ at + index_of 10 (drop at s)) where
-  pub end_found : e < length s → e + 1 ≡ at + length (line_at at s)
-  end_found h = omega (arith, line_length at s)
-
-  pub end_none : length s ≤ e → e ≡ at + length (line_at at s)
-  end_none h = omega (arith, line_length at s, index_of_le 10 (drop at s), length-drop at s)
-
--- ---- a walk over the lines: the line that starts at `at` ends at `next`
-module _ (s : List ℕ) (at next : ℕ) (ends : next ≡ at + length (line_at at s)) (more : at < length s) where
-  pub line_inside : next ≤ length s
-  line_inside = omega (arith, line_length at s)
-
-  -- less is left after a line
-  pub line_less : length s - next < length s - at
-  line_less = omega (arith, line_length at s)
-
-  pub line_next : lines (drop at s) ≡ take (next - at) (drop at s) ∷ lines (drop next s)
-  line_next = opened l (omega (arith, length-drop at s)) ∙ go (dec_le (suc (index_of 10 l)) (length l)) ∙ rw (drop-drop (next - at) at s, sum)
+  no_place : None ≡ position p l → length l ≤ position_or_len p l
+  no_place e = go (ltb (position_or_len p l) (length l)) refl e
     where
-      l : List ℕ
-      l = drop at s
+      go : (t : Bool) → ltb (position_or_len p l) (length l) ≡ t → None ≡ cond t (Some (position_or_len p l)) None → length l ≤ position_or_len p l
+      go true h e = let z : ◌≡◌ {A = ℕ} 0 1 = cc in absurd (omega arith)
+      go false h e = ltb-false _ _ h
 
-      sum : at + (next - at) ≡ next
-      sum = omega arith
+-- the same, as a loop finds it that has passed by what lies before place i
+module _ (p : ℕ → Bool) (l : List ℕ) (i : ℕ) (before : (k : ℕ) → k < i → p (get_or l k 0) ≡ false) where
+  pub found_at : i < length l → p (get_or l i 0) ≡ true → Some i ≡ position p l
+  found_at inside here = rw (position_or_len_is p l i 0 (omega arith) before (λ h. here), lt-ltb i (length l) inside)
 
-      all : (k : ℕ) → length l ≤ k → cut k l ≡ l ∷ lines []
-      all k h = rw (take_all k l h, drop_of_length-le l {i = k} h)
+  pub found_nowhere : length l ≤ i → None ≡ position p l
+  found_nowhere over =
+      let none = position_or_len_is p l (length l) 0 (omega arith) (λ k h. before k (omega arith)) (λ h. absurd (omega arith)) in
+      rw (none, le-ltb (length l) (length l) (omega arith))
 
-      go : Dec (suc (index_of 10 l) ≤ length l) → cut (suc (index_of 10 l)) l ≡ cut (next - at) l
-      go (yes h) = let e : next - at ≡ suc (index_of 10 l) = omega (arith, line_length at s, length-drop at s) in rw e
-      go (no h) = all (suc (index_of 10 l)) (omega arith) ∙ sym (all (next - at) (omega (arith, line_length at s, length-drop at s)))
+-- what comes after the first k
+after : (k : ℕ) (l : List ℕ) → drop (length (take k l)) l ≡ drop k l
+after zero l = refl
+after (suc k) [] = refl
+after (suc k) (x ∷ l) = after k l
+
+-- ---- the first line, and what comes after it
+module _ (text : List ℕ) where
+  pub line_found : {end : ℕ} → Some end ≡ position (λ x. eqb x 10) text → (take (end + 1) text ≡ first_line text) × (end + 1 ≡ length (first_line text))
+  unfolding first_line
+  line_found {end} e =
+      let f = place_of (λ x. eqb x 10) text e in
+      rw (opened text (omega (arith, f.1)), f.0, add-one end) (refl, sym (length-take-le (suc end) text (omega (arith, f.1))))
+
+  pub line_none : None ≡ position (λ x. eqb x 10) text → text ≡ first_line text
+  unfolding first_line lines
+  line_none e = sym (go text (no_place (λ x. eqb x 10) text e))
+    where
+      go : (l : List ℕ) → length l ≤ end_at l → first_line l ≡ l
+      go [] h = refl
+      go (x ∷ xs) h = rw (opened (x ∷ xs) (omega arith)) (take_all (suc (end_at (x ∷ xs))) (x ∷ xs) (omega (arith, h)))
+
+  pub line_next : 0 < length text → (0 < length (first_line text)) × (lines text ≡ first_line text ∷ lines (drop (length (first_line text)) text))
+  unfolding first_line
+  line_next some = rw (opened text some) (simp length-take (omega arith), rw after)
+
+-- ---- the first field, and those after it
+module _ (line : List ℕ) where
+  pub field_found : {comma : ℕ} → Some comma ≡ position (λ x. eqb x 44) line → fields line ≡ take comma line ∷ fields (take (length line - (comma + 1)) (drop (comma + 1) line))
+  unfolding fields
+  field_found {comma} e =
+      let f = place_of (λ x. eqb x 44) line e in
+      slice_split_first (λ x. eqb x 44) line 0 (omega (arith, f.0, f.1)) ∙ rw (f.0, take_all (length line - (comma + 1)) (drop (comma + 1) line) (omega (arith, length-drop (comma + 1) line)))
+
+  pub field_none : None ≡ position (λ x. eqb x 44) line → fields line ≡ line ∷ []
+  unfolding fields
+  field_none e = slice_split_none (λ x. eqb x 44) line (λ k d h. fails_before_first (λ x. eqb x 44) line k d (omega (arith, no_place (λ x. eqb x 44) line e)))
+
+-- ---- the last field of a line, read by `read`, which takes no comma: what it reads is all that is left, or it reads nothing
+one_field : (line : List ℕ) → length (fields line) ≡ 1 → fields line ≡ line ∷ []
+unfolding fields
+one_field [] h = refl
+one_field (x ∷ xs) h = go (eqb x 44) (slice_split (λ b. eqb b 44) xs) _ (length-slice_split (λ b. eqb b 44) xs) h (one_field xs)
+  where
+    go : (t : Bool) (fs : List (List ℕ)) (n : ℕ) → length fs ≡ n + 1 → length (cond t ([] ∷ fs) (onto_first x fs)) ≡ 1 → (length fs ≡ 1 → fs ≡ xs ∷ [])
+        → cond t ([] ∷ fs) (onto_first x fs) ≡ (x ∷ xs) ∷ []
+    go true fs n some h ih = absurd (omega arith)
+    go false [] n some h ih = absurd (omega arith)
+    go false (f ∷ fs) n some h ih = ap (onto_first x) (ih h)
+
+module _ {A : Type 0} (read : List ℕ → Option A) (plain : (t : List ℕ) (x : A) → read t ≡ Some x → fields t ≡ t ∷ []) where
+  pub last_field : (line : List ℕ) → (fields line ≡ line ∷ []) ⊎ ((read line ≡ None) × (length (fields line) ≡ 1 → ⊥))
+  last_field line = go (read line) (eqb (length (fields line)) 1) refl refl
+    where
+      go : (o : Option A) (one : Bool) → read line ≡ o → eqb (length (fields line)) 1 ≡ one
+          → (fields line ≡ line ∷ []) ⊎ ((read line ≡ None) × (length (fields line) ≡ 1 → ⊥))
+      go o true e h = inl (one_field line (eqb-true _ 1 h))
+      go (Some x) false e h = inl (plain line x e)
+      go None false e h = inr (e, eqb-false _ 1 h)

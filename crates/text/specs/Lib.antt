@@ -1,4 +1,4 @@
 -- The definitions of `text`.
 pub mod Read
-pub mod Cursor
 pub mod Write
+pub mod Writer

@@ -1,29 +1,13 @@
-// Bytes and numbers written into a buffer, from a place on. Bytes past the end of the buffer are dropped; the answer is the place
-// after the last byte written. So texts that are written one after the other need no test of the room between them.
-ghost use Rattle.std.specs.Prelude.{◌≡◌, [], ◌∷◌, ◌++◌, ◌<◌};
+// Bytes and numbers written into a buffer, from a place on. Bytes past the end of the buffer are dropped, so texts that are written one
+// after the other need no test of the room between them.
+ghost use Rattle.std.specs.Prelude.{[], ◌∷◌, ◌++◌, ◌≡◌, ◌<◌};
 ghost use Rattle.text.specs.Write as Write;
-ghost use Rattle.text.specs.Write.{Written};
 
-pub fn byte(out: &mut [u8], at: usize, b: u8) -> usize
-    ensures { Written out.old at (b ∷ []) result out.new }
-{
-    if at < out.len() {
-        out[at] = b;
-        return at + 1;
-    }
-    at
-}
-
-pub fn bytes(out: &mut [u8], at: usize, text: &[u8]) -> usize
-    ensures { Written out.old at text.now result out.new }
-{
-    let mut end = at;
-    let mut i = 0;
-    while i < text.len() {
-        end = byte(out, end, text[i]);
-        i += 1;
-    }
-    end
+// A buffer, and the place at which the next byte goes.
+#[derive(Drop)]
+pub struct Writer<'a> {
+    pub out: &'a mut [u8],
+    pub at: usize,
 }
 
 // The last hexadecimal digit of n, in lower case.
@@ -34,48 +18,74 @@ fn digit(n: u64) -> u8
     digits[(n % 16) as usize]
 }
 
-// n in decimal, with no zeros in front.
-pub fn decimal(out: &mut [u8], at: usize, n: u64) -> usize
-    ensures { Written out.old at (Write.decimal n) result out.new }
-{
-    if n < 10 {
-        return byte(out, at, digit(n));
+impl Writer<'_> {
+    ghost use Rattle.text.specs.Writer.{Writes};
+
+    pub fn byte(&mut self, b: u8)
+        ensures { Writes self.old (b ∷ []) self.new }
+    {
+        if self.at < self.out.len() {
+            self.out[self.at] = b;
+            self.at += 1;
+        }
     }
-    let end = decimal(out, at, n / 10);
-    byte(out, end, digit(n % 10))
-}
 
-// A bit pattern, as eight hexadecimal digits.
-pub fn pattern(out: &mut [u8], at: usize, bits: u32) -> usize
-    ensures { Written out.old at (Write.pattern bits) result out.new }
-{
-    let n = bits as u64;
-    let text = [
-        digit(n >> 28),
-        digit(n >> 24),
-        digit(n >> 20),
-        digit(n >> 16),
-        digit(n >> 12),
-        digit(n >> 8),
-        digit(n >> 4),
-        digit(n),
-    ];
-    bytes(out, at, &text)
-}
+    pub fn bytes(&mut self, text: &[u8])
+        ensures { Writes self.old text.now self.new }
+    {
+        for b in text {
+            self.byte(*b);
+        }
+    }
 
-// A number and the byte after it.
-pub fn number(out: &mut [u8], at: usize, n: u64, after: u8) -> usize
-    ensures { Written out.old at (Write.decimal n ++ after ∷ []) result out.new }
-{
-    let end = decimal(out, at, n);
-    byte(out, end, after)
-}
+    // n in decimal, with no zeros in front. All digits but the first are found from the last on, and kept in an array. A function that
+    // calls itself needs no such array and no index, but then the writer lies in memory, and a sheet is printed by a tenth more instructions.
+    pub fn decimal(&mut self, n: u64)
+        ensures { Writes self.old (Write.decimal n) self.new }
+    {
+        let mut digits = [0u8; 20];
+        let mut first = 20;
+        let mut left = n;
+        while left >= 10 {
+            first -= 1;
+            digits[first] = digit(left % 10);
+            left /= 10;
+        }
+        self.byte(digit(left));
+        self.bytes(&digits[first..]);
+    }
 
-// The line that a refused input gets: the refusal's number, and the line of the input.
-pub fn refused(out: &mut [u8], at: usize, refusal: u32, line: u64) -> usize
-    ensures { Written out.old at (Write.refused refusal line) result out.new }
-{
-    let start = bytes(out, at, b"refused,");
-    let end = number(out, start, refusal as u64, b',');
-    number(out, end, line, b'\n')
+    // A bit pattern, as eight hexadecimal digits.
+    pub fn pattern(&mut self, bits: u32)
+        ensures { Writes self.old (Write.pattern bits) self.new }
+    {
+        let n = bits as u64;
+        self.bytes(&[
+            digit(n >> 28),
+            digit(n >> 24),
+            digit(n >> 20),
+            digit(n >> 16),
+            digit(n >> 12),
+            digit(n >> 8),
+            digit(n >> 4),
+            digit(n),
+        ]);
+    }
+
+    // A number and the byte after it.
+    pub fn number(&mut self, n: u64, after: u8)
+        ensures { Writes self.old (Write.decimal n ++ after ∷ []) self.new }
+    {
+        self.decimal(n);
+        self.byte(after);
+    }
+
+    // The line that a refused input gets: the refusal's number, and the line of the input.
+    pub fn refused(&mut self, refusal: u32, line: u64)
+        ensures { Writes self.old (Write.refused refusal line) self.new }
+    {
+        self.bytes(b"refused,");
+        self.number(refusal as u64, b',');
+        self.number(line, b'\n');
+    }
 }

@@ -11,7 +11,7 @@ use lib.Ieee.Back.{round_whole}
 use lib.Ieee.Order.{le_of_values}
 use lib.Ieee.Bits.{is_true}
 use Rattle.refusal.specs.Refusal.{is_sample_rate, within}
-use Rattle.cue_sheet.specs.CueLine.{Strike}
+use Rattle.cue_sheet.specs.declared.line.Strike.{Strike}
 use Rattle.cue_sheet.specs.declared.Head.{Head}
 use Rattle.cue_sheet.proofs.FirstLines.{HeadIn}
 use Rattle.track.specs.Mix.{silence}

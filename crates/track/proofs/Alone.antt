@@ -8,7 +8,7 @@ use mathlib.Core.Option.{Option, none, some}
 use lib.ListN.{replicate, replicate-append-replicate}
 use lib.Ieee.{Float}
 use Rattle.refusal.specs.Refusal.{Call}
-use Rattle.cue_sheet.specs.CueLine.{Strike}
+use Rattle.cue_sheet.specs.declared.line.Strike.{Strike}
 use Rattle.track.specs.Mix.{silence}
 use Rattle.track.specs.Track.{Render, Player, until, is_own, latest, called, left, segments_from, segments, given, track_of}
 use Rattle.track.proofs.Mixed.{silence-length, silence-add}

@@ -4,10 +4,10 @@ use native.Mathlib.Omega.{arith}
 use mathlib.Core.Path.{◌≡◌, refl, ap, ◌∙◌}
 use mathlib.Core.List.{List, [], ◌∷◌}
 use Rattle.cue_sheet.specs.Answer.{Told, says, refused}
-use Rattle.cue_sheet.specs.CueLine.{Strike}
+use Rattle.cue_sheet.specs.declared.line.Strike.{Strike}
 use Rattle.cue_sheet.specs.Sheet.{read_line, on_told, next, strikes_from, strikes}
 use Rattle.cue_sheet.specs.declared.Head.{Head}
-use Rattle.cue_sheet.specs.declared.Walk.{Walk}
+use Rattle.cue_sheet.specs.declared.walk.Walk.{Walk}
 use Rattle.cue_sheet.proofs.Questions.{KnobsOf, cue-passed}
 use Rattle.cue_sheet.proofs.Walks.{next_head, least_kept, least_raised}
 use Rattle.track.specs.Track.{until}

@@ -34,3 +34,14 @@ pub record Lawful {Voice : Type 0} (p : Player Voice) : Type 1 where
   pub init_ready : (rate : Float) → is_sample_rate rate ≡ true → Ready (p.init rate).state
   pub plays : (cue : Cue) → KnobsOf cue → PlaysAt Ready (p.render cue)
   pub own : (cue : Cue) → is_own (p.render cue) ≡ eqb (letter_of cue) p.letter
+
+-- the same of a player whose `Ready` is a test: a fact that a clause can ask for
+pub record Tested {Voice : Type 0} (p : Player Voice) : Type 0 where
+  pub ready : Voice → Bool
+  pub init-accepted : (rate : Float) → is_sample_rate rate ≡ true → (p.init rate).number ≡ 0
+  pub init_ready : (rate : Float) → is_sample_rate rate ≡ true → ready (p.init rate).state ≡ true
+  pub plays : (cue : Cue) → KnobsOf cue → PlaysAt (λ v. ready v ≡ true) (p.render cue)
+  pub own : (cue : Cue) → is_own (p.render cue) ≡ eqb (letter_of cue) p.letter
+
+pub lawful : {Voice : Type 0} {p : Player Voice} → Tested p → Lawful p
+lawful t = record { Ready = λ v. t.ready v ≡ true; init-accepted = t.init-accepted; init_ready = t.init_ready; plays = t.plays; own = t.own }

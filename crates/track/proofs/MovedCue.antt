@@ -8,8 +8,9 @@ use lib.Ieee.{round, of_bits, le, lt, eq}
 use Rattle.refusal.specs.Refusal.{within, is_frequency, is_unit}
 use Rattle.text.specs.Write.{ascii}
 use Rattle.text.specs.Read as Read
-use Rattle.cue_sheet.specs.CueLine.{is_voice, read_fields, is_decay, cue_of, read_cue}
-use Rattle.cue_sheet.specs.Sheet.{accepted, read_first_line, on_told, next, judge_from, judge, strikes}
+use Rattle.cue_sheet.specs.Fields.{voice_of, fields_of, read_fields}
+use Rattle.cue_sheet.specs.CueLine.{is_decay, cue_of, read_cue}
+use Rattle.cue_sheet.specs.Sheet.{accepted, head_of, read_first_line, on_told, next, judge_from, judge, strikes}
 use Rattle.cue_sheet.specs.declared.Head.{Head}
 use Rattle.track.specs.Track.{Player, track}
 use Rattle.track.specs.OwnLines.{lines_of, cue_lines}
@@ -26,11 +27,11 @@ sheet start =
 
 -- both sheets are accepted, and agree on the lines of h
 accepted_at : (judge (sheet "4000") ≡ accepted head 3) × (judge (sheet "4800") ≡ accepted head 3)
-unfolding sheet head judge judge_from read_first_line read_cue read_fields cue_of on_told next is_voice is_decay within is_frequency is_unit Read.ended Read.body Read.lines Read.line_at Read.attach Read.fields Read.field Read.index_of Read.numeral Read.up_to Read.well_formed Read.decimal Read.pattern round of_bits le lt eq
+unfolding sheet head judge judge_from read_first_line head_of read_cue read_fields fields_of voice_of cue_of on_told next is_decay within is_frequency is_unit Read.ended Read.body Read.lines Read.first_line Read.fields Read.field Read.digit Read.numeral Read.up_to Read.well_formed Read.decimal Read.pattern round of_bits le lt eq
 accepted_at = (refl, refl)
 
 same_lines : cue_lines (code "h") (sheet "4000") ≡ cue_lines (code "h") (sheet "4800")
-unfolding sheet lines_of Read.body Read.lines Read.attach Read.fields Read.field
+unfolding sheet lines_of Read.body Read.lines Read.fields Read.field
 same_lines = refl
 
 -- the hi-hat, or any voice of its letter

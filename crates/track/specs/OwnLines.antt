@@ -1,7 +1,7 @@
 -- A voice's samples before mixing depend on nothing but the sheet's rate and length and the voice's own cue lines. Definitions only.
 use Rattle.std.specs.Prelude.{ℕ, ◌≡◌, cond, List, [], ◌∷◌, eqb, drop}
 use Rattle.text.specs.Read.{body, field, lines}
-use Rattle.cue_sheet.specs.CueLine.{letter}
+use Rattle.cue_sheet.specs.Fields.{letter}
 use Rattle.cue_sheet.specs.Sheet.{accepted, judge, strikes}
 use Rattle.cue_sheet.specs.declared.Head.{Head}
 use Rattle.track.specs.Track.{Player, track}

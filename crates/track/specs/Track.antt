@@ -5,7 +5,7 @@ use Rattle.std.proofs.Math.Option.{Option, none, some, Option-elim}
 use Rattle.std.specs.Float.{binary32}
 use Rattle.std.specs.Float.Ieee.{of_int}
 use Rattle.refusal.specs.Refusal.{Call}
-use Rattle.cue_sheet.specs.CueLine.{Strike}
+use Rattle.cue_sheet.specs.declared.line.Strike.{Strike}
 use Rattle.cue_sheet.specs.declared.Head.{Head}
 use Rattle.cue_sheet.specs.declared.line.Cue.{Cue}
 use Rattle.track.specs.Mix.{silence}

@@ -1,25 +1,36 @@
--- Each call is a part of the definition, whose test decides.
-use Rattle.std.proofs.Common.{refl, arith}
-use Rattle.text.specs.Cursor.{field_start}
-use Rattle.cue_sheet.specs.Sheet.{read_first_line}
+-- Where the comma is missing there are not two fields; else each field is read, or is malformed.
+use Rattle.std.proofs.Common.{le-leb}
+use borrow.Author.Tests.{lt-leb}
+use Rattle.cue_sheet.specs.Sheet.{head_of, read_first_line}
+use Rattle.cue_sheet.proofs.FirstLines.{one_field, two_fields}
 use Rattle.cue_sheet.proofs.read_first_line.Goals as goal
 
-pub after_field-comma-requires : goal.after_field-comma-requires
-unfolding field_start
-after_field-comma-requires c = (omega arith, refl)
-
-pub returns-then-both : goal.returns-then-both
+pub returns-in_err-without_end : goal.returns-in_err-without_end
 unfolding read_first_line
-returns-then-both c =
-    rw (← c.ended.ensures, ← c.body-body.ensures, ← c.after_field-end.ensures.last, ← c.both-whole.ensures)
-    (rw (← c.after_field-comma.ensures.here, ← c.part.ensures, ← c.decimal.ensures, ← c.value-rate.ensures)
-    (rw (← c.after_field-end.ensures.here, ← c.part-2.ensures, ← c.decimal-length.ensures, ← c.valid.ensures)
-    (rw (← c.both-numbers.ensures, ← c.both.ensures, c.if-both.true, ← c.value-length.ensures))))
+returns-in_err-without_end c = rw (c.from_residual.ensures, c.in_err-without_end.ensures)
+
+pub returns-in_err-rate : goal.returns-in_err-rate
+returns-in_err-rate c = rw (c.from_residual-in_err-rate.ensures, one_field _ c.in_ok-without_end.ensures c.in_err-rate.ensures)
+
+pub returns-in_err-rate-2 : goal.returns-in_err-rate-2
+unfolding head_of
+returns-in_err-rate-2 c =
+    rw (c.from_residual-in_err-rate-2.ensures, two_fields _ c.in_ok-without_end.ensures _ _ c.in_ok-rate.ensures, ← c.in_err-rate-2.ensures)
+
+pub returns-in_err-length : goal.returns-in_err-length
+unfolding head_of
+returns-in_err-length c =
+    rw (c.from_residual-in_err-length.ensures, two_fields _ c.in_ok-without_end.ensures _ _ c.in_ok-rate.ensures)
+    (rw (← c.in_ok-rate-2.ensures, ← c.in_err-length.ensures))
+
+pub returns-then-rate-lt16000 : goal.returns-then-rate-lt16000
+unfolding head_of
+returns-then-rate-lt16000 c =
+    rw (two_fields _ c.in_ok-without_end.ensures _ _ c.in_ok-rate.ensures)
+    (rw (← c.in_ok-rate-2.ensures, ← c.in_ok-length.ensures, lt-leb _ _ c.if-rate-lt16000.true))
 
 pub returns : goal.returns
-unfolding read_first_line
+unfolding head_of
 returns c =
-    rw (← c.ended.ensures, ← c.body-body.ensures, ← c.after_field-end.ensures.last, ← c.both-whole.ensures)
-    (rw (← c.after_field-comma.ensures.here, ← c.part.ensures, ← c.decimal.ensures, ← c.value-rate.ensures)
-    (rw (← c.after_field-end.ensures.here, ← c.part-2.ensures, ← c.decimal-length.ensures, ← c.valid.ensures)
-    (rw (← c.both-numbers.ensures, ← c.both.ensures, c.if-both.false))))
+    rw (two_fields _ c.in_ok-without_end.ensures _ _ c.in_ok-rate.ensures)
+    (rw (← c.in_ok-rate-2.ensures, ← c.in_ok-length.ensures, le-leb _ _ c.if-rate-lt16000.false))

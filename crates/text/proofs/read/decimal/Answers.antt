@@ -1,21 +1,20 @@
--- The form is asked by the length of the text.
-use borrow.Author.Tests.{eq-eqb, ne_eqb}
+-- The form is asked by the first byte and the length.
+use Rattle.std.proofs.Common.{◌≡◌, ◌<◌, get_or, length, arith}
+use Rattle.std.proofs.lemmas.Grind.{common_steps}
 use Rattle.text.specs.Read.{decimal}
-use Rattle.text.proofs.Numeral.{form}
+use Rattle.text.proofs.Numeral.{no_form, zeros_form, some_form}
 use Rattle.text.proofs.read.decimal.Goals as goal
 
-pub returns-then-text-eq0 : goal.returns-then-text-eq0
+pub returns-in_err-first : goal.returns-in_err-first
 unfolding decimal
-returns-then-text-eq0 c = search (form, eq-eqb)
+returns-in_err-first c = let none : length c.args.text.now < 1 = grind (arith, common_steps) in rw (c.from_residual.ensures, no_form c.args.text.now none)
 
-pub returns-then-text-eq1 : goal.returns-then-text-eq1
+pub returns-then-text-gt1 : goal.returns-then-text-gt1
 unfolding decimal
-returns-then-text-eq1 c = search (form, eq-eqb, ne_eqb)
-
-pub returns-then-digit-eq0 : goal.returns-then-digit-eq0
-unfolding decimal
-returns-then-digit-eq0 c = let none = rw c.digit.ensures at c.if-digit-eq0.true in search (form, ne_eqb, none)
+returns-then-text-gt1 c = let zero : get_or c.args.text.now 0 0 ≡ 48 = grind (arith, common_steps) in rw (zeros_form c.args.text.now (omega arith) zero)
 
 pub returns : goal.returns
 unfolding decimal
-returns c = let some = rw c.digit.ensures at c.if-digit-eq0.false in search (form, ne_eqb, some)
+returns c =
+    let first : get_or c.args.text.now 0 0 ≡ c.in_ok-first.field-0.now = grind (arith, common_steps) in
+    rw (some_form c.args.text.now c.in_ok-first.field-0.now (grind (arith, common_steps)) first c.else-branch-eq48.either) c.numeral.ensures

@@ -1,13 +1,10 @@
--- From place i the byte lies where it does from place `at`.
-use Rattle.text.proofs.Lines.{over, here, on}
-use borrow.Author.Rules.{rules}
+-- No byte before place i is b.
+use Rattle.std.proofs.Common.{eq-eqb}
+use Rattle.text.proofs.Lines.{found_at, found_nowhere}
 use Rattle.text.proofs.read.find.Goals as goal
 
-pub returns-then-s-i-clause-value : goal.returns-then-s-i-clause-value
-returns-then-s-i-clause-value c = search here
+pub returns-then-x-b : goal.returns-then-x-b
+returns-then-x-b c = found_at _ _ _ c.loop-i.invariant c.loop-i-test.true (eq-eqb _ _ c.if-x-b.true)
 
-pub loop-i-preserved : goal.loop-i-preserved
-loop-i-preserved c = (search on, search rules)
-
-pub returns-clause-value : goal.returns-clause-value
-returns-clause-value c = search over
+pub returns : goal.returns
+returns c = found_nowhere _ _ _ c.loop-i.invariant c.loop-i-test.false

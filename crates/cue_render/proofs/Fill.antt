@@ -5,12 +5,13 @@ use native.Mathlib.Omega.{arith}
 use mathlib.Core.Path.{◌≡◌, refl, sym, ap, ◌∙◌}
 use mathlib.Core.List.{List, [], ◌∷◌, map, append-nil}
 use mathlib.Core.Option.{some}
-use lib.ListN.{length, get_or, drop, set, get_or-replicate}
+use lib.ListN.{length, get_or, drop, set}
 use lib.Seq.{drop-length, get_or-drop}
-use lib.Ieee.{Float, nan, binary32, add, of_bits, round}
-use Rattle.block.specs.Block.{Turn, scan}
+use lib.Ieee.{Float, nan, binary32, add}
+use Rattle.block.specs.declared.Turn.{Turn}
+use Rattle.block.specs.Block.{scan}
 use Rattle.block.proofs.Blocks.{Going, begin, turn, end}
-use Rattle.track.specs.Mix.{silence, mixed}
+use Rattle.track.specs.Mix.{mixed}
 
 -- ---- a list is what the stage makes of it that hands every sample on
 abbrev pub copy : ℕ → Float → Turn ℕ
@@ -42,11 +43,6 @@ module _ {xs out₀ : List Float} (same : length xs ≡ length out₀) where
     fill_end h =
         (end copy 0 xs out₀ 0 out i g (omega (arith, same, g.long))).1
         ∙ rw (scan_copy 0 xs, same, drop-length out₀, append-nil xs)
-
--- ---- silence
-pub silence_at : (n i : ℕ) → i < n → get_or (silence n) i nan ≡ of_bits binary32 0
-unfolding silence of_bits round
-silence_at n i h = get_or-replicate n i _ nan h
 
 -- ---- sums
 pub mixed_at : (xs ys : List Float) (i : ℕ) → i < length xs → length ys ≡ length xs → {x : Float} → x ≡ get_or xs i nan

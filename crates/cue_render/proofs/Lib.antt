@@ -1,6 +1,6 @@
 -- The laws of `cue_render` beside the proofs of its functions.
 mod Fill
-mod Runs
+mod Next
 mod Pass
 mod Voices
 mod NeverRefused

@@ -1,77 +1,70 @@
 -- One voice's walk over a sheet, from cue to cue of its own: the run of each is added, and what is left to add is what the cues behind it make.
-use Prim.Native.Nat.{ℕ, suc, ◌-◌, ◌≤◌, ◌<◌}
+use Prim.Native.Nat.{ℕ, ◌-◌, ◌≤◌, ◌<◌}
 use native.Mathlib.Omega.{arith}
 use mathlib.Core.Path.{◌≡◌, refl, sym, ap, ◌∙◌}
 use mathlib.Core.Bool.{Bool, true, false, cond, false≢true}
 use mathlib.Core.List.{List, [], ◌∷◌, ◌++◌, map, append-nil}
 use mathlib.Core.Option.{Option, none, some}
-use lib.Dec.{eqb}
 use lib.ListN as List
 use lib.ListN.{take, drop, replicate, length-append, length-drop, length-map}
 use lib.Seq.{length-take-le}
 use lib.Ieee.{Float}
+use Rattle.std.specs.Prelude as Rust
+use Rattle.std.specs.Prelude.{Some, None, IfSome, IsTrue}
 use Rattle.refusal.specs.Refusal.{Call}
-use Rattle.text.specs.Read.{line_at}
-use Rattle.cue_sheet.specs.Answer.{Told, says, refused}
-use Rattle.cue_sheet.specs.CueLine.{Strike}
-use Rattle.cue_sheet.specs.Sheet.{begin, strikes}
+use Rattle.cue_sheet.specs.declared.line.Strike.{Strike}
+use Rattle.cue_sheet.specs.Sheet.{strikes}
 use Rattle.cue_sheet.specs.declared.Head.{Head}
-use Rattle.cue_sheet.specs.declared.Walk.{Walk}
-use Rattle.cue_sheet.proofs.Walks.{rest}
+use Rattle.cue_sheet.specs.declared.walk.CueLines.{CueLines}
 use Rattle.track.specs.Mix.{silence, mixed}
 use Rattle.track.specs.Track.{Render, Player, is_own, started, track}
-use Rattle.track.specs.Letters.{letter_of}
 use Rattle.track.proofs.Mixed.{silence-length, mixed-length, mixed_none, part_length, mixed_part}
 use Rattle.track.proofs.Cues.{CuesIn, until_in, earlier, cues_of}
 use Rattle.track.proofs.Laws.{Plays, PlaysAt, Lawful}
 use Rattle.track.proofs.Alone.{Own, on_own, ends, solo_from, solo, owns, ends_in, alone}
-use Rattle.cue_render.specs.Run.{is_of, start_of, left, of_voice, from_line, run_of, render_of, struck, Playable}
-use Rattle.cue_render.specs.declared.run.Run.{Run}
+use Rattle.cue_render.specs.Run.{left, own_of, from_next, end_of, struck, Playable}
 
 -- the places of a run lie in the buffer, and the scratch has as many
-pub record Fits (run : Run) (out scratch : List Float) : Type 0 where
-  pub rising : run.from ≤ run.to
-  pub inside : run.to ≤ List.length out
-  pub room : run.to - run.from ≤ List.length scratch
-  pub block : List.length (take (run.to - run.from) scratch) ≡ run.to - run.from
+pub record Fits (from to : ℕ) (out scratch : List Float) : Type 0 where
+  pub rising : from ≤ to
+  pub inside : to ≤ List.length out
+  pub room : to - from ≤ List.length scratch
+  pub block : List.length (take (to - from) scratch) ≡ to - from
+
+-- a cue that is known to be the voice's own
+abbrev pub Known : {Voice : Type 0} → Player Voice → Rust.Option Strike → Type 0
+Known p next = IfSome next (λ s. IsTrue (is_own (p.render s.cue)))
 
 module _ {Voice : Type 0} (p : Player Voice) (laws : Lawful p) where
-  -- ---- the voice's cues by its letter are its own, and in their places as they were
-  owns_of : (ss : List Strike) → owns p (of_voice p.letter ss) ≡ owns p ss
-  unfolding of_voice owns is_own on_own
+  -- ---- the voice's cues are its own, and in their places as they were
+  owns_of : (ss : List Strike) → owns p (own_of p ss) ≡ owns p ss
+  unfolding own_of owns is_own on_own
   owns_of [] = refl
-  owns_of (s ∷ ss) =
-      ap (λ (own : Bool). owns p (cond own (s ∷ of_voice p.letter ss) (of_voice p.letter ss))) (sym (laws.own s.cue))
-      ∙ go (p.render s.cue) refl (owns_of ss)
+  owns_of (s ∷ ss) = go (p.render s.cue) refl (owns_of ss)
     where
-      go : (o : Option (Render Voice)) → p.render s.cue ≡ o → owns p (of_voice p.letter ss) ≡ owns p ss
-          → owns p (cond (is_own o) (s ∷ of_voice p.letter ss) (of_voice p.letter ss)) ≡ on_own s.start o (owns p ss)
+      go : (o : Option (Render Voice)) → p.render s.cue ≡ o → owns p (own_of p ss) ≡ owns p ss
+          → owns p (cond (is_own o) (s ∷ own_of p ss) (own_of p ss)) ≡ on_own s.start o (owns p ss)
       go none e ih = ih
       go (some r) e ih = rw (e, ih)
 
-  in_of : (length from : ℕ) (ss : List Strike) → CuesIn length from ss → CuesIn length from (of_voice p.letter ss)
-  unfolding of_voice CuesIn
+  in_of : (length from : ℕ) (ss : List Strike) → CuesIn length from ss → CuesIn length from (own_of p ss)
+  unfolding own_of CuesIn
   in_of length from [] cues = cues
-  in_of length from (s ∷ ss) cues = go (eqb (letter_of s.cue) p.letter) (in_of length s.start ss cues.2)
+  in_of length from (s ∷ ss) cues = go (is_own (p.render s.cue)) (in_of length s.start ss cues.2)
     where
-      go : (own : Bool) → CuesIn length s.start (of_voice p.letter ss) → CuesIn length from (cond own (s ∷ of_voice p.letter ss) (of_voice p.letter ss))
+      go : (own : Bool) → CuesIn length s.start (own_of p ss) → CuesIn length from (cond own (s ∷ own_of p ss) (own_of p ss))
       go true ih = (cues.0, cues.1, ih)
-      go false ih = earlier length from s.start (of_voice p.letter ss) cues.0 ih
+      go false ih = earlier length from s.start (own_of p ss) cues.0 ih
 
-  -- a line that is no cue of the voice, and where the run before a line ends
-  no_cue : (t : Told Strike) (ss : List Strike) → is_of p.letter t ≡ false → from_line p.letter t ss ≡ []
-  unfolding from_line
-  no_cue (refused n) ss e = refl
-  no_cue (says s) ss e = rw e
-
-  end_is : (length : ℕ) (t : Told Strike) (ss : List Strike) → cond (is_of p.letter t) (start_of t) length ≡ ends length (owns p (from_line p.letter t ss))
-  unfolding from_line owns on_own ends is_own
-  end_is length (refused n) ss = refl
-  end_is length (says s) ss = rw (← laws.own) (go (p.render s.cue) refl)
+  -- where the run before a cue ends
+  end_is : (length : ℕ) (next : Rust.Option Strike) (ss : List Strike) → Known p next → end_of length next ≡ ends length (owns p (from_next p next ss))
+  unfolding from_next owns on_own ends is_own
+  end_is length None ss known = refl
+  end_is length (Some s) ss known = go (p.render s.cue) known
     where
-      go : (o : Option (Render Voice)) → p.render s.cue ≡ o → cond (is_own o) s.start length ≡ ends length (owns p (cond (is_own o) (s ∷ of_voice p.letter ss) []))
-      go none e = refl
-      go (some r) e = rw e
+      go : (o : Option (Render Voice)) → IsTrue (is_own o) → s.start ≡ ends length (on_own s.start o (owns p (own_of p ss)))
+      go none known = absurd (false≢true known)
+      go (some r) known = refl
 
   struck-length : (o : Option (Render Voice)) (v : Voice) (scratch out : List Float) → List.length (struck o v scratch out).out ≡ List.length out
   unfolding struck
@@ -98,112 +91,87 @@ module _ {Voice : Type 0} (p : Player Voice) (laws : Lawful p) where
       ∙ ap (λ (call : Call Voice). mixed out (replicate from none ++ (map some call.out ++ solo_from length call.state os)))
       (plays.fills v true scratch (silence n) sized accepted)
 
+  -- the cues that are left, from the next one on, with the lines after it
+  abbrev from_here : Rust.Option Strike → CueLines → List Strike
+  from_here next lines = from_next p next (left lines)
+
+  -- out holds what the cues before `next` have added, and v is ready for those that are left
+  pub record Passing (sheet : List ℕ) (head : Head) (out₀ : List Float) (v : Voice) (next : Rust.Option Strike) (lines : CueLines) (out : List Float) : Type 0 where
+    pub cues : CuesIn head.length 0 (from_here next lines)
+    pub known : Known p next
+    pub short : head.length ≤ 16384
+    pub room : List.length out ≡ head.length
+    pub ready : laws.Ready v
+    pub to_add : mixed out (solo head.length v (owns p (from_here next lines))) ≡ mixed out₀ (track p head (strikes head sheet))
+
   module _ (sheet : List ℕ) where
-    -- the cues that are left, from the line t on, with the walk w after it
-    abbrev from_here : Told Strike → Walk → List Strike
-    from_here t w = from_line p.letter t (left sheet w)
-
-    -- out holds what the cues before t have added, and v is ready for those that are left
-    pub record Passing (head : Head) (out₀ : List Float) (v : Voice) (t : Told Strike) (w : Walk) (out : List Float) : Type 0 where
-      pub same : w.head ≡ head
-      pub cues : CuesIn head.length 0 (from_here t w)
-      pub short : head.length ≤ 16384
-      pub room : List.length out ≡ head.length
-      pub ready : laws.Ready v
-      pub to_add : mixed out (solo head.length v (owns p (from_here t w))) ≡ mixed out₀ (track p head (strikes head sheet))
-
-    pub begins : (head : Head) (out scratch : List Float) → Playable head out scratch → {t : Told Strike} {w : Walk} → w.head ≡ head
-        → of_voice p.letter (left sheet (begin head (line_at 0 sheet))) ≡ from_here t w → Passing head out (started p head).state t w out
-    unfolding track strikes
-    begins head out scratch q {t} {w} same first =
+    pub begins : (head : Head) (out scratch : List Float) → Playable head out scratch → (first : CueLines) {next : Rust.Option Strike} {lines : CueLines} → left first ≡ strikes head sheet
+        → own_of p (left first) ≡ from_here next lines → Known p next → Passing sheet head out (started p head).state next lines out
+    unfolding track
+    begins head out scratch q first {next} {lines} all cues known =
         let ready = laws.init_ready _ q.rate in
-        let all : of_voice p.letter (strikes head sheet) ≡ from_here t w = rw (rest sheet) first in
+        let here : own_of p (strikes head sheet) ≡ from_here next lines = rw (← all) cues in
         record {
-          same = same;
-          cues = rw all at (in_of head.length 0 (strikes head sheet) (cues_of head sheet));
+          cues = rw here at (in_of head.length 0 (strikes head sheet) (cues_of head sheet));
+          known = known;
           short = q.short;
           room = q.room;
           ready = ready;
           to_add =
               ap (mixed out)
-              (ap (solo head.length (started p head).state) (ap (owns p) (sym all) ∙ owns_of (strikes head sheet))
+              (ap (solo head.length (started p head).state) (ap (owns p) (sym here) ∙ owns_of (strikes head sheet))
               ∙ sym (alone p laws head.length q.short (strikes head sheet) (cues_of head sheet) _ ready));
         }
 
-    pub ends_here : {head : Head} {out₀ : List Float} {v : Voice} {t : Told Strike} {w : Walk} {out : List Float} → Passing head out₀ v t w out → is_of p.letter t ≡ false
+    pub ends_here : {head : Head} {out₀ : List Float} {v : Voice} {next : Rust.Option Strike} {lines : CueLines} {out : List Float} → Passing sheet head out₀ v next lines out → next ≡ None
         → out ≡ mixed out₀ (track p head (strikes head sheet))
-    unfolding solo solo_from owns ends
-    ends_here {head = head} {t = t} {w = w} {out = out} g other =
-        sym (mixed_none head.length out) ∙ rw append-nil at (rw (no_cue t (left sheet w) other) at g.to_add)
+    unfolding solo solo_from owns ends from_next
+    ends_here {head = head} {lines = lines} {out = out} g none_left = sym (mixed_none head.length out) ∙ rw append-nil at (rw none_left at g.to_add)
 
-    -- ---- a cue of the voice: its start and its render, and the cues behind it
-    record Struck (length : ℕ) (t : Told Strike) (w : Walk) : Type 0 where
-      start : ℕ
+    -- ---- a cue of the voice: its render, and the cues behind it
+    record Struck (length : ℕ) (s : Strike) (lines : CueLines) : Type 0 where
       render : Render Voice
       plays : Plays laws.Ready render
-      starts : start_of t ≡ start
-      renders : render_of p t ≡ some render
-      first : owns p (from_here t w) ≡ record { start = start; render = render } ∷ owns p (of_voice p.letter (left sheet w))
-      fewer : List.length (from_here t w) ≡ suc (List.length (of_voice p.letter (left sheet w)))
-      behind : CuesIn length start (of_voice p.letter (left sheet w))
+      renders : p.render s.cue ≡ some render
+      first : owns p (s ∷ own_of p (left lines)) ≡ record { start = s.start; render = render } ∷ owns p (own_of p (left lines))
+      behind : CuesIn length s.start (own_of p (left lines))
 
-    line_strikes : (length : ℕ) (t : Told Strike) (w : Walk) → is_of p.letter t ≡ true → CuesIn length 0 (from_here t w) → Struck length t w
-    unfolding from_line render_of CuesIn owns on_own is_own
-    line_strikes length (refused n) w own cues = absurd (false≢true own)
-    line_strikes length (says s) w own cues = go (p.render s.cue) refl (laws.own s.cue ∙ own) (laws.plays s.cue here.1)
+    strikes_it : (length : ℕ) (s : Strike) (lines : CueLines) → IsTrue (is_own (p.render s.cue)) → CuesIn length 0 (s ∷ own_of p (left lines)) → Struck length s lines
+    unfolding CuesIn owns on_own is_own
+    strikes_it length s lines own cues = go (p.render s.cue) refl own (laws.plays s.cue cues.1)
       where
-        here : CuesIn length 0 (s ∷ of_voice p.letter (left sheet w))
-        here = rw own at cues
-
-        go : (o : Option (Render Voice)) → p.render s.cue ≡ o → is_own o ≡ true → PlaysAt laws.Ready o → Struck length (says s) w
+        go : (o : Option (Render Voice)) → p.render s.cue ≡ o → IsTrue (is_own o) → PlaysAt laws.Ready o → Struck length s lines
         go none e is plays = absurd (false≢true is)
-        go (some render) e is plays = record {
-          start = s.start;
-          render = render;
-          plays = plays;
-          starts = refl;
-          renders = e;
-          first = rw (own, e);
-          fewer = rw own;
-          behind = here.2;
-        }
+        go (some render) e is plays = record { render = render; plays = plays; renders = e; first = rw e; behind = cues.2 }
 
-    -- ---- a turn: the cue's run, up to the next one, t'
-    module _ {head : Head} {out₀ : List Float} {v : Voice} {t : Told Strike} {w : Walk} {out : List Float} (g : Passing head out₀ v t w out) (own : is_of p.letter t ≡ true)
-        (t' : Told Strike) (w' : Walk) {run : Run} (same' : w'.head ≡ w.head) (next-is : of_voice p.letter (left sheet w) ≡ from_here t' w')
-        (run_is : run ≡ run_of p.letter head.length t t') where
+    -- ---- a turn: the cue's run, up to the next one
+    module _ {head : Head} {out₀ : List Float} {v : Voice} {s : Strike} {lines : CueLines} {out : List Float} (g : Passing sheet head out₀ v (Some s) lines out)
+        (next : Rust.Option Strike) (lines' : CueLines) (known : Known p next) (next-is : own_of p (left lines) ≡ from_here next lines')
+        {to : ℕ} (to-is : to ≡ end_of head.length next) where
       abbrev from : ℕ
-      from = run.from
+      from = s.start
 
-      abbrev to : ℕ
-      to = run.to
+      here : Struck head.length s lines
+      unfolding from_next
+      here = strikes_it head.length s lines g.known g.cues
 
-      strikes_it : Struck head.length t w
-      strikes_it = line_strikes head.length t w own g.cues
+      to_is : to ≡ ends head.length (owns p (from_here next lines'))
+      to_is = to-is ∙ end_is head.length next (left lines') known
 
-      -- what is behind it begins where its run ends
-      from_is : from ≡ strikes_it.start
-      unfolding run_of
-      from_is = ap (λ (r : Run). r.from) run_is ∙ strikes_it.starts
-
-      to_is : to ≡ ends head.length (owns p (from_here t' w'))
-      unfolding run_of
-      to_is = ap (λ (r : Run). r.to) run_is ∙ end_is head.length t' (left sheet w')
-
-      behind' : CuesIn head.length strikes_it.start (from_here t' w')
-      behind' = rw next-is at strikes_it.behind
+      behind : CuesIn head.length from (from_here next lines')
+      behind = rw next-is at here.behind
 
       bounds : (from ≤ to) × (to ≤ head.length)
       bounds =
-          let start = strikes_it.start in
-          let until = until_in head.length start (from_here t' w') behind' in
-          let end = ends_in p head.length start (from_here t' w') behind' in
-          omega (arith, from_is, to_is, until.0, end.0, end.1)
+          let until = until_in head.length from (from_here next lines') behind in
+          let end = ends_in p head.length from (from_here next lines') behind in
+          omega (arith, to_is, until.0, end.0, end.1)
 
-      pub fewer : List.length (from_here t' w') < List.length (from_here t w)
-      fewer = rw (strikes_it.fewer, next-is) (omega arith)
+      pub fewer : List.length (from_here next lines') < List.length (from_here (Some s) lines)
+      unfolding from_next
+      fewer = rw next-is (omega arith)
 
-      pub fits : (scratch : List Float) → List.length scratch ≡ 16384 → Fits run out scratch
+      pub fits : (scratch : List Float) → List.length scratch ≡ 16384 → Fits from to out scratch
       fits scratch enough =
           let b = bounds in
           record {
@@ -214,34 +182,26 @@ module _ {Voice : Type 0} (p : Player Voice) (laws : Lawful p) where
           }
 
       pub turn : (scratch : List Float) → List.length scratch ≡ to - from → {v' : Voice} {part out' : List Float}
-          → v' ≡ (struck (render_of p t) v scratch (take (to - from) (drop from out))).state
-          → part ≡ (struck (render_of p t) v scratch (take (to - from) (drop from out))).out
-          → out' ≡ take from out ++ (part ++ drop to out) → Passing head out₀ v' t' w' out'
-      unfolding struck
+          → v' ≡ (struck (p.render s.cue) v scratch (take (to - from) (drop from out))).state
+          → part ≡ (struck (p.render s.cue) v scratch (take (to - from) (drop from out))).out
+          → out' ≡ take from out ++ (part ++ drop to out) → Passing sheet head out₀ v' next lines' out'
+      unfolding struck from_next
       turn scratch size {v'} {part} {out'} after added written =
-          let s = strikes_it in
+          let h = here in
           let b = bounds in
           record {
-            same = same' ∙ g.same;
-            cues = earlier head.length 0 s.start (from_here t' w') (omega arith) behind';
+            cues = earlier head.length 0 from (from_here next lines') (omega arith) behind;
+            known = known;
             short = g.short;
             room =
                 let places = take (to - from) (drop from out) in
-                let part-long = ap List.length added ∙ struck-length (render_of p t) v scratch places ∙ part_length out from to b.0 (omega (arith, b.1, g.room)) in
+                let part-long = ap List.length added ∙ struck-length (p.render s.cue) v scratch places ∙ part_length out from to b.0 (omega (arith, b.1, g.room)) in
                 rw (written, length-append, length-append, length-drop, length-take-le from out (omega (arith, b.0, b.1, g.room)), part-long)
                 (omega (arith, b.0, b.1, g.room));
-            ready = rw (after, s.renders) (s.plays.stays v g.ready true scratch);
+            ready = rw (after, h.renders) (h.plays.stays v g.ready true scratch);
             to_add =
-                let os = owns p (from_here t' w') in
-                rw (written, added, after, s.renders)
-                (own_turn s.render s.plays v g.ready head.length from to os to_is b.0 b.1 g.short out scratch g.room size
-                ∙ ap (λ (k : ℕ). mixed out (solo head.length v (record { start = k; render = s.render } ∷ os))) from_is
-                ∙ rw (s.first, next-is) at g.to_add);
+                let os = owns p (from_here next lines') in
+                rw (written, added, after, h.renders)
+                (own_turn h.render h.plays v g.ready head.length from to os to_is b.0 b.1 g.short out scratch g.room size
+                ∙ rw (h.first, next-is) at g.to_add);
           }
-
-    -- the run of a cue lies in the buffers, by what the calls before it promise
-    pub in_buffers : {head : Head} {out₀ : List Float} {v : Voice} {t : Told Strike} {w : Walk} {out scratch : List Float}
-        → Passing head out₀ v t w out × (List.length scratch ≡ 16384) → {own : Bool} → own ≡ is_of p.letter t → own ≡ true
-        → (t' : Told Strike) (w' : Walk) → w'.head ≡ w.head → of_voice p.letter (left sheet w) ≡ from_here t' w'
-        → {run : Run} → run ≡ run_of p.letter head.length t t' → Fits run out scratch
-    in_buffers inv told own t' w' same next run = fits inv.0 (sym told ∙ own) t' w' same next run _ inv.1

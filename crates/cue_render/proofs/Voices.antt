@@ -29,7 +29,7 @@ use Rattle.cue_sheet.specs.declared.line.Cue.TheVariants.{Bass, Snare, Synthetic
 use Rattle.cue_sheet.proofs.Questions.{KnobsOf}
 use Rattle.track.specs.Track.{is_own}
 use Rattle.track.specs.Letters.{letter_of}
-use Rattle.track.proofs.Laws.{PlaysAt, Lawful}
+use Rattle.track.proofs.Laws.{PlaysAt, Tested}
 use Rattle.cue_render.specs.Voices.{bass_cue, bass, snare_cue, snare, synthetic_snare_cue, synthetic_snare, hihat_cue, hihat}
 
 -- ---- b
@@ -37,11 +37,11 @@ zero_unit : is_unit (decimal 0 0) ≡ true
 unfolding is_unit within le round
 zero_unit = refl
 
-bass_plays : (cue : Cue) → KnobsOf cue → PlaysAt (λ v. Unit {0}) (bass_cue cue)
+bass_plays : (cue : Cue) → KnobsOf cue → PlaysAt (λ v. ◌≡◌ {A = Bool} true true) (bass_cue cue)
 unfolding bass_cue AnalogBassDrum.render_refusal AnalogBassDrum.knobs_refusal
 bass_plays (Bass accent f0 tone decay attack_fm_amount) q = record {
   accepts = λ v ready trigger out short. rw (le-leb (length out) 16384 short, q.frequency, q.accent_in, q.a_in, q.decay_in, q.c_in, zero_unit);
-  stays = λ v ready trigger out. tt;
+  stays = λ v ready trigger out. refl;
   in_two = λ v trigger. BassBlocks.any_block_length v trigger accent _;
   fills = λ v trigger out out' e h. rw (e, rw e at h);
   long = λ v trigger out h. rw (h, samples-length);
@@ -57,16 +57,16 @@ bass_own (Snare accent f0 tone decay snappy) = refl
 bass_own (SyntheticSnare accent f0 fm_amount decay snappy) = refl
 bass_own (HihatCue accent f0 tone decay noisiness) = refl
 
-pub bass_lawful : Lawful bass
+pub bass_lawful : Tested bass
 bass_lawful =
-    record { Ready = λ v. Unit {0}; init-accepted = λ rate h. rw h; init_ready = λ rate h. tt; plays = bass_plays; own = bass_own }
+    record { ready = λ v. true; init-accepted = λ rate h. rw h; init_ready = λ rate h. refl; plays = bass_plays; own = bass_own }
 
 -- ---- s
-snare_plays : (cue : Cue) → KnobsOf cue → PlaysAt (λ v. Unit {0}) (snare_cue cue)
+snare_plays : (cue : Cue) → KnobsOf cue → PlaysAt (λ v. ◌≡◌ {A = Bool} true true) (snare_cue cue)
 unfolding snare_cue AnalogSnareDrum.render_refusal AnalogSnareDrum.knobs_refusal
 snare_plays (Snare accent f0 tone decay snappy) q = record {
   accepts = λ v ready trigger out short. rw (le-leb (length out) 16384 short, q.frequency, q.accent_in, q.a_in, q.decay_in, q.c_in);
-  stays = λ v ready trigger out. tt;
+  stays = λ v ready trigger out. refl;
   in_two = λ v trigger. SnareBlocks.any_block_length v trigger accent _;
   fills = λ v trigger out out' e h. rw (e, rw e at h);
   long = λ v trigger out h. rw (h, samples-length);
@@ -82,9 +82,9 @@ snare_own (Snare accent f0 tone decay snappy) = refl
 snare_own (SyntheticSnare accent f0 fm_amount decay snappy) = refl
 snare_own (HihatCue accent f0 tone decay noisiness) = refl
 
-pub snare_lawful : Lawful snare
+pub snare_lawful : Tested snare
 snare_lawful =
-    record { Ready = λ v. Unit {0}; init-accepted = λ rate h. rw h; init_ready = λ rate h. tt; plays = snare_plays; own = snare_own }
+    record { ready = λ v. true; init-accepted = λ rate h. rw h; init_ready = λ rate h. refl; plays = snare_plays; own = snare_own }
 
 -- ---- y, which stores its rate and keeps it
 kept : (v : SyntheticSnareVoice) (k : SyntheticSnareKnobs) (m n : ℕ) (t : Bool)
@@ -121,10 +121,10 @@ synthetic_snare_own (Snare accent f0 tone decay snappy) = refl
 synthetic_snare_own (SyntheticSnare accent f0 fm_amount decay snappy) = refl
 synthetic_snare_own (HihatCue accent f0 tone decay noisiness) = refl
 
-pub synthetic_snare_lawful : Lawful synthetic_snare
+pub synthetic_snare_lawful : Tested synthetic_snare
 unfolding SyntheticSnareDrum.initialized
 synthetic_snare_lawful = record {
-  Ready = λ v. is_sample_rate v.sample_rate_hz ≡ true;
+  ready = λ v. is_sample_rate v.sample_rate_hz;
   init-accepted = λ rate h. rw h;
   init_ready = λ rate h. rw h h;
   plays = synthetic_snare_plays;
@@ -152,10 +152,10 @@ hihat_own (Snare accent f0 tone decay snappy) = refl
 hihat_own (SyntheticSnare accent f0 fm_amount decay snappy) = refl
 hihat_own (HihatCue accent f0 tone decay noisiness) = refl
 
-pub hihat_lawful : Lawful hihat
+pub hihat_lawful : Tested hihat
 unfolding Hihat.initialized
 hihat_lawful = record {
-  Ready = λ v. is_sample_rate v.sample_rate ≡ true;
+  ready = λ v. is_sample_rate v.sample_rate;
   init-accepted = λ rate h. rw h;
   init_ready = λ rate h. rw h h;
   plays = hihat_plays;

@@ -1,6 +1,6 @@
 -- No call of a voice is refused while a sheet is rendered: what that is. Definitions only.
 use Rattle.std.specs.Prelude.{ℕ, ◌≡◌, List}
-use Rattle.cue_sheet.specs.CueLine.{Strike}
+use Rattle.cue_sheet.specs.declared.line.Strike.{Strike}
 use Rattle.cue_sheet.specs.Sheet.{accepted, judge, strikes}
 use Rattle.cue_sheet.specs.declared.Head.{Head}
 use Rattle.track.specs.Track as Track

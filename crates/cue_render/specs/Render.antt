@@ -1,7 +1,7 @@
 -- A cue sheet rendered into a buffer: the samples of an accepted sheet, the answer, and what the buffer holds. Definitions only.
 use Rattle.std.specs.Prelude.{ℕ, cond, List, ◌++◌, leb, drop, Float}
 use Rattle.std.proofs.Math.ListN as List
-use Rattle.cue_sheet.specs.CueLine.{Strike}
+use Rattle.cue_sheet.specs.declared.line.Strike.{Strike}
 use Rattle.cue_sheet.specs.Sheet.{SheetAnswer, accepted, refused_at, judge, strikes}
 use Rattle.cue_sheet.specs.declared.Head.{Head}
 use Rattle.track.specs.Mix.{silence, mixed}

@@ -1,60 +1,53 @@
--- THE PORT'S OWN, which private contracts alone cite: a voice's own cues by its letter, and the run of each, from its start to the voice's next. Definitions only.
-use Rattle.std.specs.Prelude.{ℕ, ◌≤◌, ◌≡◌, Bool, true, false, cond, List, [], ◌∷◌, map, eqb, pos, length, drop, Float}
+-- THE PORT'S OWN, which private contracts alone cite: a voice's own cues, and the run of each, from its start to the voice's next. Definitions only.
+use Rattle.std.specs.Prelude.{ℕ, ◌≤◌, ◌≡◌, true, cond, List, [], ◌∷◌, map, pos, length, Float}
+use Rattle.std.specs.Prelude as Rust
 use Rattle.std.proofs.Math.Option.{Option, none, some}
 use Rattle.std.specs.Float.{binary32}
 use Rattle.std.specs.Float.Ieee.{of_int}
 use Rattle.block.specs.Block.{Passed}
 use Rattle.refusal.specs.Refusal.{is_sample_rate}
 use Rattle.text.specs.Read.{lines}
-use Rattle.cue_sheet.specs.Answer.{Told, says, refused}
-use Rattle.cue_sheet.specs.CueLine.{Strike}
+use Rattle.cue_sheet.specs.declared.line.Strike.{Strike}
 use Rattle.cue_sheet.specs.Sheet.{strikes_from}
 use Rattle.cue_sheet.specs.declared.Head.{Head}
-use Rattle.cue_sheet.specs.declared.Walk.{Walk}
+use Rattle.cue_sheet.specs.declared.walk.CueLines.{CueLines}
 use Rattle.track.specs.Mix.{mixed}
-use Rattle.track.specs.Track.{Render, Player}
-use Rattle.track.specs.Letters.{letter_of}
-use Rattle.cue_render.specs.declared.run.Run.{Run}
+use Rattle.track.specs.Track.{Render, Player, is_own}
 
--- whether a line is a cue of the voice, and its start
-abbrev pub is_of : ℕ → Told Strike → Bool
-is_of letter (says s) = eqb (letter_of s.cue) letter
-is_of letter (refused n) = false
+-- the cues of the lines that are left
+abbrev pub left : CueLines → List Strike
+left c = strikes_from c.walk (lines c.rest.now)
 
-abbrev pub start_of : Told Strike → ℕ
-start_of (says s) = s.start
-start_of (refused n) = 0
+module _ {Voice : Type 0} (p : Player Voice) where
+  -- the voice's own among these
+  unfoldable pub own_of : List Strike → List Strike
+  own_of [] = []
+  own_of (s ∷ ss) =
+      let own = own_of ss in
+      cond (is_own (p.render s.cue)) (s ∷ own) own
 
--- the cues from a walk's place on
-abbrev pub left : List ℕ → Walk → List Strike
-left sheet walk = strikes_from walk (lines (drop walk.place sheet))
+  -- the voice's own, where the next of them is known and the lines after it are left
+  unfoldable pub from_next : Rust.Option Strike → List Strike → List Strike
+  from_next Rust.None ss = []
+  from_next (Rust.Some s) ss = s ∷ own_of ss
 
--- the voice's cues among these
-unfoldable pub of_voice : ℕ → List Strike → List Strike
-of_voice letter [] = []
-of_voice letter (s ∷ ss) =
-    let own = of_voice letter ss in
-    cond (eqb (letter_of s.cue) letter) (s ∷ own) own
+-- the end of the run before a cue, which is the sheet's end where there is none
+abbrev pub end_of : ℕ → Rust.Option Strike → ℕ
+end_of length Rust.None = length
+end_of length (Rust.Some s) = s.start
 
--- the voice's cues from a line on, that of the line the first; none where the line is no cue of the voice
-unfoldable pub from_line : ℕ → Told Strike → List Strike → List Strike
-from_line letter (says s) ss = cond (eqb (letter_of s.cue) letter) (s ∷ of_voice letter ss) []
-from_line letter (refused n) ss = []
+module _ {Voice : Type 0} where
+  -- what a cue does to a voice and to a block: one of its own triggers the voice, which renders
+  unfoldable pub rendered : Option (Render Voice) → Voice → List Float → Passed Voice
+  rendered none v out = record { state = v; out = out }
+  rendered (some render) v out = record { state = (render v true out).state; out = (render v true out).out }
 
--- the run of a cue, up to the voice's next, or to the sheet's end where `next` is no cue of the voice
-unfoldable pub run_of : ℕ → ℕ → Told Strike → Told Strike → Run
-run_of letter length line next = record { from = start_of line; to = cond (is_of letter next) (start_of next) length }
-
--- what a line does to a voice and to the places of its run: a cue of its own triggers it, and what it renders into a scratch block is added
-unfoldable pub render_of : {Voice : Type 0} → Player Voice → Told Strike → Option (Render Voice)
-render_of p (says s) = p.render s.cue
-render_of p (refused n) = none
-
-unfoldable pub struck : {Voice : Type 0} → Option (Render Voice) → Voice → List Float → List Float → Passed Voice
-struck none v scratch out = record { state = v; out = out }
-struck (some render) v scratch out =
-    let call = render v true scratch in
-    record { state = call.state; out = mixed out (map some call.out) }
+  -- the same over the places of a run: what is rendered into a scratch block is added
+  unfoldable pub struck : Option (Render Voice) → Voice → List Float → List Float → Passed Voice
+  struck none v scratch out = record { state = v; out = out }
+  struck (some render) v scratch out =
+      let call = render v true scratch in
+      record { state = call.state; out = mixed out (map some call.out) }
 
 -- what an accepted sheet and the buffers for it are
 pub record Playable (head : Head) (out scratch : List Float) : Type 0 where

@@ -1,74 +1,40 @@
-// The analog snare in a sheet: each of its cues from its start to the start of its next, added to what the buffer holds.
-ghost use Rattle.std.specs.Prelude.{◌≡◌, length};
-ghost use Rattle.cue_sheet.specs.CueLine.{told};
-ghost use Rattle.cue_sheet.specs.Sheet.{strikes};
-ghost use Rattle.track.specs.Mix.{mixed};
-ghost use Rattle.track.specs.Track.{track};
+// The analog snare in a sheet.
 ghost use Rattle.cue_render.specs.Voices.{snare};
-ghost use Rattle.cue_render.specs.Run.{Playable, render_of, struck};
 
-use crate::{mix, run};
+use crate::drum::{Drum, handed_back};
 use analog_snare_drum::{AnalogSnareDrum, Knobs};
-use cue_sheet::{Cue, Head, Line, Walk};
+use cue_sheet::Cue;
 
-pub(crate) fn add_track(sheet: &[u8], head: Head, out: &mut [f32], scratch: &mut [f32])
-    requires { Playable head out.old scratch.old }
-    ensures { out.new ≡ mixed out.old (track snare head (strikes head sheet.now)) }
-{
-    let mut voice = AnalogSnareDrum::ZERO
-        .init(ieee754::nearest_f32(head.rate))
-        .voice;
-    let first = run::next_cue(sheet, Walk::begin(sheet, head), b's');
-    let mut line = first.line;
-    let mut walk = first.walk;
-    while run::is_of(line, b's') {
-        let step = run::next_cue(sheet, walk, b's');
-        let next = step.line;
-        walk = step.walk;
-        let run = run::run_of(line, next, b's', head.length);
-        let from = run.from;
-        let to = run.to;
-        // What the two slices below need (`in_buffers` of proofs/Pass.antt).
-        prove!(from <= to && to <= out.len() && to - from <= scratch.len());
-        voice = strike(voice, line, &mut out[from..to], &mut scratch[..to - from]);
-        line = next;
+impl Drum for AnalogSnareDrum {
+    ghost player = { snare };
+
+    fn begin(sample_rate_hz: f32) -> Self {
+        handed_back(AnalogSnareDrum::ZERO.init(sample_rate_hz))
     }
-}
 
-// What a line does to the analog snare and to the places of its run: nothing, if it is no cue of the analog snare. The scratch is as long as the run.
-fn strike(
-    voice: AnalogSnareDrum,
-    line: Line,
-    out: &mut [f32],
-    scratch: &mut [f32],
-) -> AnalogSnareDrum
-    requires { length scratch.old ≡ length out.old }
-    ensures voice { result ≡ (struck (render_of snare (told line)) voice scratch.old out.old).state }
-    ensures out { out.new ≡ (struck (render_of snare (told line)) voice scratch.old out.old).out }
-{
-    let Line::Cue(_, cue) = line else {
-        return voice;
-    };
-    match cue {
-        Cue::Snare {
+    #[tactic(auto, unfolding(crate::specs::Voices::snare_cue, track::specs::Track::is_own))]
+    fn plays(cue: Cue) -> bool {
+        matches!(cue, Cue::Snare { .. })
+    }
+
+    #[tactic(auto, unfolding(crate::specs::Voices::snare_cue, crate::specs::Run::rendered))]
+    fn strike(self, cue: Cue, out: &mut [f32]) -> Self {
+        let Cue::Snare {
             accent,
             f0,
             tone,
             decay,
             snappy,
-        } => {
-            let knobs = Knobs {
-                f0,
-                tone,
-                decay,
-                snappy,
-            };
-            let struck = voice.render(true, accent, knobs, scratch);
-            mix::add_to(out, scratch);
-            struck.voice
-        }
-        Cue::Bass { .. } => voice,
-        Cue::SyntheticSnare { .. } => voice,
-        Cue::Hihat { .. } => voice,
+        } = cue
+        else {
+            return self;
+        };
+        let knobs = Knobs {
+            f0,
+            tone,
+            decay,
+            snappy,
+        };
+        handed_back(self.render(true, accent, knobs, out))
     }
 }

@@ -1,76 +1,42 @@
-// The synthetic snare in a sheet: each of its cues from its start to the start of its next, added to what the buffer holds.
-ghost use Rattle.std.specs.Prelude.{◌≡◌, length};
-ghost use Rattle.cue_sheet.specs.CueLine.{told};
-ghost use Rattle.cue_sheet.specs.Sheet.{strikes};
-ghost use Rattle.track.specs.Mix.{mixed};
-ghost use Rattle.track.specs.Track.{track};
-ghost use Rattle.cue_render.specs.Voices.{synthetic_snare as snare};
-ghost use Rattle.cue_render.specs.Run.{Playable, render_of, struck};
+// The synthetic snare in a sheet.
+ghost use Rattle.cue_render.specs.Voices.{synthetic_snare};
 
-use crate::{mix, run};
-use cue_sheet::{Cue, Head, Line, Walk};
+use crate::drum::{Drum, handed_back};
+use cue_sheet::Cue;
 use synthetic_snare_drum::{Knobs, SyntheticSnareDrum};
 
-pub(crate) fn add_track(sheet: &[u8], head: Head, out: &mut [f32], scratch: &mut [f32])
-    requires { Playable head out.old scratch.old }
-    ensures { out.new ≡ mixed out.old (track snare head (strikes head sheet.now)) }
-{
-    let mut voice = SyntheticSnareDrum::ZERO
-        .init(ieee754::nearest_f32(head.rate))
-        .voice;
-    let first = run::next_cue(sheet, Walk::begin(sheet, head), b'y');
-    let mut line = first.line;
-    let mut walk = first.walk;
-    while run::is_of(line, b'y') {
-        let step = run::next_cue(sheet, walk, b'y');
-        let next = step.line;
-        walk = step.walk;
-        let run = run::run_of(line, next, b'y', head.length);
-        let from = run.from;
-        let to = run.to;
-        // What the two slices below need (`in_buffers` of proofs/Pass.antt).
-        prove!(from <= to && to <= out.len() && to - from <= scratch.len());
-        voice = strike(voice, line, &mut out[from..to], &mut scratch[..to - from]);
-        line = next;
-    }
-}
+impl Drum for SyntheticSnareDrum {
+    ghost player = { synthetic_snare };
 
-// What a line does to the synthetic snare and to the places of its run: nothing, if it is no cue of the synthetic snare. The scratch is as long as the run.
-fn strike(
-    voice: SyntheticSnareDrum,
-    line: Line,
-    out: &mut [f32],
-    scratch: &mut [f32],
-) -> SyntheticSnareDrum
-    requires { length scratch.old ≡ length out.old }
-    ensures voice { result ≡ (struck (render_of snare (told line)) voice scratch.old out.old).state }
-    ensures out { out.new ≡ (struck (render_of snare (told line)) voice scratch.old out.old).out }
-{
-    let Line::Cue(_, cue) = line else {
-        return voice;
-    };
-    match cue {
-        Cue::SyntheticSnare {
+    fn begin(sample_rate_hz: f32) -> Self {
+        handed_back(SyntheticSnareDrum::ZERO.init(sample_rate_hz))
+    }
+
+    #[tactic(auto, unfolding(crate::specs::Voices::synthetic_snare_cue, track::specs::Track::is_own))]
+    fn plays(cue: Cue) -> bool {
+        matches!(cue, Cue::SyntheticSnare { .. })
+    }
+
+    #[tactic(auto, unfolding(crate::specs::Voices::synthetic_snare_cue, crate::specs::Run::rendered))]
+    fn strike(self, cue: Cue, out: &mut [f32]) -> Self {
+        let Cue::SyntheticSnare {
             accent,
             f0,
             fm_amount,
             decay,
             snappy,
-        } => {
-            let knobs = Knobs {
-                sustain: false,
-                accent,
-                f0,
-                fm_amount,
-                decay,
-                snappy,
-            };
-            let struck = voice.render(true, knobs, scratch);
-            mix::add_to(out, scratch);
-            struck.voice
-        }
-        Cue::Bass { .. } => voice,
-        Cue::Snare { .. } => voice,
-        Cue::Hihat { .. } => voice,
+        } = cue
+        else {
+            return self;
+        };
+        let knobs = Knobs {
+            sustain: false,
+            accent,
+            f0,
+            fm_amount,
+            decay,
+            snappy,
+        };
+        handed_back(self.render(true, knobs, out))
     }
 }

@@ -1,0 +1,12 @@
+use Rattle.std.proofs.Common.{◌≡◌, length}
+use Rattle.track.proofs.Laws.{Tested, lawful}
+use Rattle.cue_render.specs.Run.{left, from_next}
+use Rattle.cue_render.proofs.Pass.{Passing}
+use Rattle.cue_render.proofs.own_track.add_track.Given as goal
+
+abbrev pub invariant-loop-next : goal.invariant-loop-next
+invariant-loop-next g l =
+    ((laws : Tested g.D.Drum.player) → Passing g.D.Drum.player (lawful laws) l.sheet l.head l.initial.out l.voice l.next l.lines l.out) × (length l.scratch ≡ 16384)
+
+abbrev pub decreases-loop-next : goal.decreases-loop-next
+decreases-loop-next g l = length (from_next g.D.Drum.player l.next (left l.lines))

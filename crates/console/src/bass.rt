@@ -1,8 +1,10 @@
 // The 808 bass drum.
 ghost use Rattle.std.specs.Prelude.{◌≡◌};
+ghost use Rattle.refusal.specs.Refusal.{call_number, call_voice};
 ghost use Rattle.analog_bass_drum.specs.AnalogBassDrum as spec;
 
 use analog_bass_drum::{AnalogBassDrum, Knobs};
+use refusal::Refused;
 
 // The number of the refusal, 0 for an accepted call, and the voice after the call.
 #[repr(C)]
@@ -10,6 +12,20 @@ use analog_bass_drum::{AnalogBassDrum, Knobs};
 pub struct AnalogBassDrumAnswered {
     pub number: u32,
     pub voice: AnalogBassDrum,
+}
+
+impl From<Result<AnalogBassDrum, Refused<AnalogBassDrum>>> for AnalogBassDrumAnswered {
+    ghost from_gives = { λ r a. (a.number ≡ call_number r) × (a.voice ≡ call_voice r) };
+
+    fn from(answer: Result<AnalogBassDrum, Refused<AnalogBassDrum>>) -> Self {
+        match answer {
+            Ok(voice) => AnalogBassDrumAnswered { number: 0, voice },
+            Err(refused) => AnalogBassDrumAnswered {
+                number: refused.refusal.into(),
+                voice: refused.voice,
+            },
+        }
+    }
 }
 
 // Every field zero, for `init` to overwrite.
@@ -29,13 +45,7 @@ pub extern "C" fn bechullpi_analog_bass_drum_init(
     ensures number { result.number ≡ (spec.init voice sample_rate_hz).number }
     ensures voice { result.voice ≡ (spec.init voice sample_rate_hz).state }
 {
-    let a = voice.init(sample_rate_hz);
-    let answer = a.answer;
-    let voice = a.voice;
-    AnalogBassDrumAnswered {
-        number: answer.number(),
-        voice,
-    }
+    voice.init(sample_rate_hz).into()
 }
 
 // Refused by 2, 3, 4 and 5.
@@ -51,13 +61,7 @@ pub extern "C" fn bechullpi_analog_bass_drum_render(
     ensures voice { result.voice ≡ (spec.render voice trigger accent knobs out.old).state }
     ensures out { out.new ≡ (spec.render voice trigger accent knobs out.old).out }
 {
-    let a = voice.render(trigger, accent, knobs, out);
-    let answer = a.answer;
-    let voice = a.voice;
-    AnalogBassDrumAnswered {
-        number: answer.number(),
-        voice,
-    }
+    voice.render(trigger, accent, knobs, out).into()
 }
 
 // Refused by 4.
@@ -69,13 +73,7 @@ pub extern "C" fn bechullpi_analog_bass_drum_strike(
     ensures number { result.number ≡ (spec.strike voice accent).number }
     ensures voice { result.voice ≡ (spec.strike voice accent).state }
 {
-    let a = voice.strike(accent);
-    let answer = a.answer;
-    let voice = a.voice;
-    AnalogBassDrumAnswered {
-        number: answer.number(),
-        voice,
-    }
+    voice.strike(accent).into()
 }
 
 // Refused by 2, 3 and 5.
@@ -89,11 +87,5 @@ pub extern "C" fn bechullpi_analog_bass_drum_run(
     ensures voice { result.voice ≡ (spec.run voice knobs out.old).state }
     ensures out { out.new ≡ (spec.run voice knobs out.old).out }
 {
-    let a = voice.run(knobs, out);
-    let answer = a.answer;
-    let voice = a.voice;
-    AnalogBassDrumAnswered {
-        number: answer.number(),
-        voice,
-    }
+    voice.run(knobs, out).into()
 }

@@ -20,33 +20,32 @@ pub struct FrequencyApproximation {
     pub dirty: bool,
 }
 
-pub(crate) fn filter_mode(mode: FilterMode) -> filter::FilterMode
-    ensures { result ≡ spec.filter_mode mode }
-{
-    if mode.band_pass {
-        if mode.high_or_normalized {
-            return filter::FilterMode::BandPassNormalized;
+impl From<FilterMode> for filter::FilterMode {
+    ghost from_gives = { λ mode r. r ≡ spec.filter_mode mode };
+
+    fn from(mode: FilterMode) -> Self {
+        match (mode.band_pass, mode.high_or_normalized) {
+            (false, false) => filter::FilterMode::LowPass,
+            (false, true) => filter::FilterMode::HighPass,
+            (true, false) => filter::FilterMode::BandPass,
+            (true, true) => filter::FilterMode::BandPassNormalized,
         }
-        return filter::FilterMode::BandPass;
     }
-    if mode.high_or_normalized {
-        return filter::FilterMode::HighPass;
-    }
-    filter::FilterMode::LowPass
 }
 
-pub(crate) fn approximation(approximation: FrequencyApproximation) -> filter::FrequencyApproximation
-    ensures { result ≡ spec.approximation approximation }
-{
-    if approximation.dirty {
-        return filter::FrequencyApproximation::Dirty;
+impl From<FrequencyApproximation> for filter::FrequencyApproximation {
+    ghost from_gives = { λ approximation r. r ≡ spec.approximation approximation };
+
+    fn from(approximation: FrequencyApproximation) -> Self {
+        match (approximation.dirty, approximation.fast) {
+            (true, _) => filter::FrequencyApproximation::Dirty,
+            (false, true) => filter::FrequencyApproximation::Fast,
+            (false, false) => filter::FrequencyApproximation::Accurate,
+        }
     }
-    if approximation.fast {
-        return filter::FrequencyApproximation::Fast;
-    }
-    filter::FrequencyApproximation::Accurate
 }
 
+// Of a bare bool, which is no kind by itself, so this is no `From`.
 pub(crate) fn vca_type(linear: bool) -> VcaType
     ensures { result ≡ spec.vca_type linear }
 {

@@ -4,7 +4,6 @@ ghost use Rattle.filter.specs.OnePole as one-pole;
 ghost use Rattle.filter.specs.Svf as svf;
 ghost use Rattle.console.specs.Enums as Enums;
 
-use crate::enums;
 use crate::enums::{FilterMode, FrequencyApproximation};
 use filter::{OnePole, OnePoleOutput, Svf, SvfDualOutput, SvfOutput};
 
@@ -38,7 +37,7 @@ pub extern "C" fn bechullpi_filter_one_pole_tan(
 ) -> f32
     ensures { result ≡ one-pole.tan f (Enums.approximation approximation) }
 {
-    OnePole::tan(f, enums::approximation(approximation))
+    OnePole::tan(f, approximation.into())
 }
 
 #[unsafe(no_mangle)]
@@ -49,7 +48,7 @@ pub extern "C" fn bechullpi_filter_one_pole_set_f(
 ) -> OnePole
     ensures { result ≡ one-pole.set_f filter f (Enums.approximation approximation) }
 {
-    filter.set_f(f, enums::approximation(approximation))
+    filter.set_f(f, approximation.into())
 }
 
 // A band-pass mode gives 0.0.
@@ -61,7 +60,7 @@ pub extern "C" fn bechullpi_filter_one_pole_process(
 ) -> OnePoleOutput
     ensures { result ≡ one-pole.process filter in_ (Enums.filter_mode mode) }
 {
-    filter.process(in_, enums::filter_mode(mode))
+    filter.process(in_, mode.into())
 }
 
 // Every field zero, for `init` to overwrite.
@@ -124,14 +123,14 @@ pub extern "C" fn bechullpi_filter_svf_set_f_q(
 ) -> Svf
     ensures { result ≡ svf.set_f_q filter f resonance (Enums.approximation approximation) }
 {
-    filter.set_f_q(f, resonance, enums::approximation(approximation))
+    filter.set_f_q(f, resonance, approximation.into())
 }
 
 #[unsafe(no_mangle)]
 pub extern "C" fn bechullpi_filter_svf_process(filter: Svf, in_: f32, mode: FilterMode) -> SvfOutput
     ensures { result ≡ svf.process filter in_ (Enums.filter_mode mode) }
 {
-    filter.process(in_, enums::filter_mode(mode))
+    filter.process(in_, mode.into())
 }
 
 // One sample, in two modes.
@@ -144,7 +143,7 @@ pub extern "C" fn bechullpi_filter_svf_process_dual(
 ) -> SvfDualOutput
     ensures { result ≡ svf.process_dual filter in_ (Enums.filter_mode mode_1) (Enums.filter_mode mode_2) }
 {
-    filter.process_dual(in_, enums::filter_mode(mode_1), enums::filter_mode(mode_2))
+    filter.process_dual(in_, mode_1.into(), mode_2.into())
 }
 
 // As many samples as the shorter slice has; the rest of `out` keeps what it held.
@@ -158,5 +157,5 @@ pub extern "C" fn bechullpi_filter_svf_process_buffer(
     ensures filter { result ≡ (svf.process_buffer filter in_.now out.old (Enums.filter_mode mode)).state }
     ensures out { out.new ≡ (svf.process_buffer filter in_.now out.old (Enums.filter_mode mode)).out }
 {
-    filter.process_buffer(in_, out, enums::filter_mode(mode))
+    filter.process_buffer(in_, out, mode.into())
 }

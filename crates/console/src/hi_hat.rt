@@ -1,12 +1,14 @@
 // The 808 hi-hat, and the square noise by itself.
 ghost use Rattle.std.specs.Prelude.{◌≡◌, length};
 ghost use Rattle.block.specs.Block.{samples, after};
+ghost use Rattle.refusal.specs.Refusal.{call_number, call_voice};
 ghost use Rattle.hihat.specs.SquareNoise as square;
 ghost use Rattle.hihat.specs.Hihat as spec;
 ghost use Rattle.console.specs.Enums.{vca_type};
 
 use crate::enums;
 use hihat::{Hihat, Knobs, SquareNoise};
+use refusal::Refused;
 
 // The number of the refusal, 0 for an accepted call, and the voice after the call.
 #[repr(C)]
@@ -14,6 +16,20 @@ use hihat::{Hihat, Knobs, SquareNoise};
 pub struct HihatAnswered {
     pub number: u32,
     pub voice: Hihat,
+}
+
+impl From<Result<Hihat, Refused<Hihat>>> for HihatAnswered {
+    ghost from_gives = { λ r a. (a.number ≡ call_number r) × (a.voice ≡ call_voice r) };
+
+    fn from(answer: Result<Hihat, Refused<Hihat>>) -> Self {
+        match answer {
+            Ok(voice) => HihatAnswered { number: 0, voice },
+            Err(refused) => HihatAnswered {
+                number: refused.refusal.into(),
+                voice: refused.voice,
+            },
+        }
+    }
 }
 
 // Every field zero, for `init` to overwrite.
@@ -30,13 +46,7 @@ pub extern "C" fn bechullpi_hihat_init(voice: Hihat, sample_rate: f32) -> HihatA
     ensures number { result.number ≡ (spec.init voice sample_rate).number }
     ensures voice { result.voice ≡ (spec.init voice sample_rate).state }
 {
-    let a = voice.init(sample_rate);
-    let answer = a.answer;
-    let voice = a.voice;
-    HihatAnswered {
-        number: answer.number(),
-        voice,
-    }
+    voice.init(sample_rate).into()
 }
 
 // Refused by 1, of the rate that the voice stores, 2, 3, 4 and 5. The VCA is the swing one unless `linear` is set.
@@ -52,13 +62,9 @@ pub extern "C" fn bechullpi_hihat_render(
     ensures voice { result.voice ≡ (spec.render voice trigger (vca_type linear) knobs out.old).state }
     ensures out { out.new ≡ (spec.render voice trigger (vca_type linear) knobs out.old).out }
 {
-    let a = voice.render(trigger, enums::vca_type(linear), knobs, out);
-    let answer = a.answer;
-    let voice = a.voice;
-    HihatAnswered {
-        number: answer.number(),
-        voice,
-    }
+    voice
+        .render(trigger, enums::vca_type(linear), knobs, out)
+        .into()
 }
 
 // Refused by 1, of the rate that the voice stores, 4 and 5.
@@ -67,13 +73,7 @@ pub extern "C" fn bechullpi_hihat_strike(voice: Hihat, accent: f32, decay: f32) 
     ensures number { result.number ≡ (spec.strike voice accent decay).number }
     ensures voice { result.voice ≡ (spec.strike voice accent decay).state }
 {
-    let a = voice.strike(accent, decay);
-    let answer = a.answer;
-    let voice = a.voice;
-    HihatAnswered {
-        number: answer.number(),
-        voice,
-    }
+    voice.strike(accent, decay).into()
 }
 
 // Refused by 1, of the rate that the voice stores, 2, 3, 4 and 5. The VCA is the swing one unless `linear` is set.
@@ -88,13 +88,7 @@ pub extern "C" fn bechullpi_hihat_run(
     ensures voice { result.voice ≡ (spec.run voice (vca_type linear) knobs out.old).state }
     ensures out { out.new ≡ (spec.run voice (vca_type linear) knobs out.old).out }
 {
-    let a = voice.run(enums::vca_type(linear), knobs, out);
-    let answer = a.answer;
-    let voice = a.voice;
-    HihatAnswered {
-        number: answer.number(),
-        voice,
-    }
+    voice.run(enums::vca_type(linear), knobs, out).into()
 }
 
 #[unsafe(no_mangle)]

@@ -83,7 +83,7 @@ pub extern "C" fn bechullpi_ieee754_minimum_f64(x: f64, y: f64) -> f64
     ensures value { result ≡ Operations.minimum x y }
     ensures nan_where { NanWhere binary64 (is_nan x || is_nan y) result }
 {
-    ieee754::minimum_f64(x, y)
+    ieee754::minimum(x, y)
 }
 
 #[unsafe(no_mangle)]
@@ -91,7 +91,7 @@ pub extern "C" fn bechullpi_ieee754_minimum_number_f64(x: f64, y: f64) -> f64
     ensures value { result ≡ Operations.minimum_number x y }
     ensures nan_where { NanWhere binary64 (is_nan x && is_nan y) result }
 {
-    ieee754::minimum_number_f64(x, y)
+    ieee754::minimum_number(x, y)
 }
 
 #[unsafe(no_mangle)]
@@ -99,7 +99,7 @@ pub extern "C" fn bechullpi_ieee754_maximum_f64(x: f64, y: f64) -> f64
     ensures value { result ≡ Operations.maximum x y }
     ensures nan_where { NanWhere binary64 (is_nan x || is_nan y) result }
 {
-    ieee754::maximum_f64(x, y)
+    ieee754::maximum(x, y)
 }
 
 #[unsafe(no_mangle)]
@@ -107,7 +107,7 @@ pub extern "C" fn bechullpi_ieee754_maximum_number_f64(x: f64, y: f64) -> f64
     ensures value { result ≡ Operations.maximum_number x y }
     ensures nan_where { NanWhere binary64 (is_nan x && is_nan y) result }
 {
-    ieee754::maximum_number_f64(x, y)
+    ieee754::maximum_number(x, y)
 }
 
 #[unsafe(no_mangle)]
@@ -115,7 +115,7 @@ pub extern "C" fn bechullpi_ieee754_minimum_magnitude_f64(x: f64, y: f64) -> f64
     ensures value { result ≡ Operations.minimum_magnitude x y }
     ensures nan_where { NanWhere binary64 (is_nan x || is_nan y) result }
 {
-    ieee754::minimum_magnitude_f64(x, y)
+    ieee754::minimum_magnitude(x, y)
 }
 
 #[unsafe(no_mangle)]
@@ -123,7 +123,7 @@ pub extern "C" fn bechullpi_ieee754_minimum_magnitude_number_f64(x: f64, y: f64)
     ensures value { result ≡ Operations.minimum_magnitude_number x y }
     ensures nan_where { NanWhere binary64 (is_nan x && is_nan y) result }
 {
-    ieee754::minimum_magnitude_number_f64(x, y)
+    ieee754::minimum_magnitude_number(x, y)
 }
 
 #[unsafe(no_mangle)]
@@ -131,7 +131,7 @@ pub extern "C" fn bechullpi_ieee754_maximum_magnitude_f64(x: f64, y: f64) -> f64
     ensures value { result ≡ Operations.maximum_magnitude x y }
     ensures nan_where { NanWhere binary64 (is_nan x || is_nan y) result }
 {
-    ieee754::maximum_magnitude_f64(x, y)
+    ieee754::maximum_magnitude(x, y)
 }
 
 #[unsafe(no_mangle)]
@@ -139,5 +139,5 @@ pub extern "C" fn bechullpi_ieee754_maximum_magnitude_number_f64(x: f64, y: f64)
     ensures value { result ≡ Operations.maximum_magnitude_number x y }
     ensures nan_where { NanWhere binary64 (is_nan x && is_nan y) result }
 {
-    ieee754::maximum_magnitude_number_f64(x, y)
+    ieee754::maximum_magnitude_number(x, y)
 }

@@ -1,7 +1,9 @@
 // The synthetic snare drum.
 ghost use Rattle.std.specs.Prelude.{◌≡◌};
+ghost use Rattle.refusal.specs.Refusal.{call_number, call_voice};
 ghost use Rattle.synthetic_snare_drum.specs.SyntheticSnareDrum as spec;
 
+use refusal::Refused;
 use synthetic_snare_drum::{Knobs, SyntheticSnareDrum};
 
 // The number of the refusal, 0 for an accepted call, and the voice after the call.
@@ -10,6 +12,20 @@ use synthetic_snare_drum::{Knobs, SyntheticSnareDrum};
 pub struct SyntheticSnareDrumAnswered {
     pub number: u32,
     pub voice: SyntheticSnareDrum,
+}
+
+impl From<Result<SyntheticSnareDrum, Refused<SyntheticSnareDrum>>> for SyntheticSnareDrumAnswered {
+    ghost from_gives = { λ r a. (a.number ≡ call_number r) × (a.voice ≡ call_voice r) };
+
+    fn from(answer: Result<SyntheticSnareDrum, Refused<SyntheticSnareDrum>>) -> Self {
+        match answer {
+            Ok(voice) => SyntheticSnareDrumAnswered { number: 0, voice },
+            Err(refused) => SyntheticSnareDrumAnswered {
+                number: refused.refusal.into(),
+                voice: refused.voice,
+            },
+        }
+    }
 }
 
 // Every field zero, for `init` to overwrite.
@@ -29,13 +45,7 @@ pub extern "C" fn bechullpi_synthetic_snare_drum_init(
     ensures number { result.number ≡ (spec.init voice sample_rate_hz).number }
     ensures voice { result.voice ≡ (spec.init voice sample_rate_hz).state }
 {
-    let a = voice.init(sample_rate_hz);
-    let answer = a.answer;
-    let voice = a.voice;
-    SyntheticSnareDrumAnswered {
-        number: answer.number(),
-        voice,
-    }
+    voice.init(sample_rate_hz).into()
 }
 
 // Refused by 1, of the rate that the voice stores, 2, 3, 4 and 5.
@@ -50,13 +60,7 @@ pub extern "C" fn bechullpi_synthetic_snare_drum_render(
     ensures voice { result.voice ≡ (spec.render voice trigger knobs out.old).state }
     ensures out { out.new ≡ (spec.render voice trigger knobs out.old).out }
 {
-    let a = voice.render(trigger, knobs, out);
-    let answer = a.answer;
-    let voice = a.voice;
-    SyntheticSnareDrumAnswered {
-        number: answer.number(),
-        voice,
-    }
+    voice.render(trigger, knobs, out).into()
 }
 
 // Refused by 1, of the rate that the voice stores, 4 and 5.
@@ -69,13 +73,7 @@ pub extern "C" fn bechullpi_synthetic_snare_drum_strike(
     ensures number { result.number ≡ (spec.strike voice accent decay).number }
     ensures voice { result.voice ≡ (spec.strike voice accent decay).state }
 {
-    let a = voice.strike(accent, decay);
-    let answer = a.answer;
-    let voice = a.voice;
-    SyntheticSnareDrumAnswered {
-        number: answer.number(),
-        voice,
-    }
+    voice.strike(accent, decay).into()
 }
 
 // Refused by 1, of the rate that the voice stores, 2, 3, 4 and 5.
@@ -89,11 +87,5 @@ pub extern "C" fn bechullpi_synthetic_snare_drum_run(
     ensures voice { result.voice ≡ (spec.run voice knobs out.old).state }
     ensures out { out.new ≡ (spec.run voice knobs out.old).out }
 {
-    let a = voice.run(knobs, out);
-    let answer = a.answer;
-    let voice = a.voice;
-    SyntheticSnareDrumAnswered {
-        number: answer.number(),
-        voice,
-    }
+    voice.run(knobs, out).into()
 }

@@ -12,7 +12,7 @@ use Rattle.text.proofs.Written.{whole}
 use Rattle.text.proofs.Digits.{pattern-length, decimal-length}
 use Rattle.draw_request.specs.Requests.{read_request}
 use Rattle.draw_request.specs.declared.Request.{Request}
-use Rattle.draw_request.specs.declared.Request.TheVariants.{Draws, Refused}
+use Rattle.std.specs.Prelude.{Option, Some, None}
 use Rattle.draw_request.proofs.Requests.{accepted}
 use Rattle.listing.specs.Draws.{row, rows, answer, text}
 
@@ -32,14 +32,14 @@ rows-length n state zero h = omega arith
 rows-length n state (suc count) h =
     simp length-append (omega (arith, row-length n state (omega arith), rows-length (suc n) (get_float state).word count (omega arith)))
 
-text-length : (input : List ℕ) (q : Request) → read_request input ≡ q → length (answer q) ≤ 25015
+text-length : (input : List ℕ) (q : Option Request) → read_request input ≡ q → length (answer q) ≤ 25015
 unfolding answer refused
-text-length input (Draws state count) e =
-    let most = (accepted input state count e).most in
-    simp length-append (omega (arith, rows-length 1 state count (omega arith)))
-text-length input Refused e = simp length-append (omega (arith, decimal-length 0 8 (omega arith), decimal-length 0 1 (omega arith)))
+text-length input (Some r) e =
+    let most = (accepted input r.state r.count e).most in
+    simp length-append (omega (arith, rows-length 1 r.state r.count (omega arith)))
+text-length input None e = simp length-append (omega (arith, decimal-length 0 8 (omega arith), decimal-length 0 1 (omega arith)))
 
-pub listed : (input : List ℕ) {q : Request} → q ≡ read_request input → {r : Request} → q ≡ r → {out out' : List ℕ} {end : ℕ} → length out ≡ 25015
+pub listed : (input : List ℕ) {q : Option Request} → q ≡ read_request input → {r : Option Request} → q ≡ r → {out out' : List ℕ} {end : ℕ} → length out ≡ 25015
     → Written out 0 (answer r) end out' → Whole out (text input) end out'
 unfolding text
 listed input {q = q} read {r = r} same room w =

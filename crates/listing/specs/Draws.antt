@@ -1,5 +1,5 @@
 -- What the program `draws` prints for its input. Definitions only.
-use Rattle.std.specs.Prelude.{ℕ, zero, suc, List, [], ◌++◌}
+use Rattle.std.specs.Prelude.{ℕ, zero, suc, List, [], ◌++◌, Option, Some, None}
 use Rattle.std.specs.Float.{binary32}
 use Rattle.std.specs.Float.Ieee.{to_bits}
 use Rattle.random.specs.Random.{get_float}
@@ -8,7 +8,6 @@ use Rattle.text.specs.Write as Write
 use Rattle.text.specs.Write.{ascii}
 use Rattle.draw_request.specs.Requests.{read_request}
 use Rattle.draw_request.specs.declared.Request.{Request}
-use Rattle.draw_request.specs.declared.Request.TheVariants.{Draws, Refused}
 
 -- the draw's number, the word drawn, and the pattern of its float
 unfoldable pub row : ℕ → Draw → List ℕ
@@ -19,9 +18,9 @@ unfoldable pub rows : ℕ → ℕ → ℕ → List ℕ
 rows n state zero = []
 rows n state (suc count) = row n (get_float state) ++ rows (suc n) (get_float state).word count
 
-unfoldable pub answer : Request → List ℕ
-answer (Draws state count) = ascii "draw,word,bits\n" ++ rows 1 state count
-answer Refused = Write.refused 8 1
+unfoldable pub answer : Option Request → List ℕ
+answer (Some r) = ascii "draw,word,bits\n" ++ rows 1 r.state r.count
+answer None = Write.refused 8 1
 
 unfoldable pub text : List ℕ → List ℕ
 text input = answer (read_request input)

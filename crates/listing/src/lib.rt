@@ -5,86 +5,71 @@ ghost use Rattle.std.specs.Prelude.{[], ◌∷◌, ◌++◌};
 ghost use Rattle.std.specs.Float.{binary32};
 ghost use Rattle.std.specs.Float.Ieee.{to_bits};
 ghost use Rattle.text.specs.Write as Write;
-ghost use Rattle.text.specs.Write.{ascii, Written, Whole};
+ghost use Rattle.text.specs.Write.{ascii, Whole};
+ghost use Rattle.text.specs.Writer.{Writes};
 ghost use Rattle.listing.specs.Cues as Cues;
 ghost use Rattle.listing.specs.Draws as Draws;
 
-use cue_sheet::Judgment;
-use draw_request::Request;
 use random::Draw;
+use text::write::Writer;
 
 // The pattern of a float and the byte after it.
-fn put_pattern(out: &mut [u8], at: usize, x: f32, after: u8) -> usize
-    ensures { Written out.old at (Write.pattern (to_bits binary32 x) ++ after ∷ []) result out.new }
+fn put_pattern(writer: &mut Writer, x: f32, after: u8)
+    ensures { Writes writer.old (Write.pattern (to_bits binary32 x) ++ after ∷ []) writer.new }
 {
-    let end = text::write::pattern(out, at, ieee754::to_bits(x));
-    text::write::byte(out, end, after)
+    writer.pattern(ieee754::to_bits(x));
+    writer.byte(after);
 }
 
-fn put_row(out: &mut [u8], at: usize, number: u32, draw: Draw) -> usize
-    ensures { Written out.old at (Draws.row number draw) result out.new }
+fn put_row(writer: &mut Writer, number: u32, draw: Draw)
+    ensures { Writes writer.old (Draws.row number draw) writer.new }
 {
-    let word = draw.word;
-    let value = draw.value;
-    let first = text::write::number(out, at, number as u64, b',');
-    let second = text::write::number(out, first, word as u64, b',');
-    put_pattern(out, second, value, b'\n')
+    writer.number(number as u64, b',');
+    writer.number(draw.word as u64, b',');
+    put_pattern(writer, draw.value, b'\n');
 }
 
-fn put_rows(out: &mut [u8], at: usize, state: u32, count: u32) -> usize
-    ensures { Written out.old at (Draws.rows 1 state count) result out.new }
+fn put_rows(writer: &mut Writer, state: u32, count: u32)
+    ensures { Writes writer.old (Draws.rows 1 state count) writer.new }
 {
-    let mut end = at;
     let mut word = state;
-    let mut drawn: u32 = 0;
-    while drawn < count {
+    for number in 1..=count {
         let draw = random::get_float(word);
-        end = put_row(out, end, drawn + 1, draw);
+        put_row(writer, number, draw);
         word = draw.word;
-        drawn += 1;
     }
-    end
 }
 
 // What the program `draws` prints for its input, at the start of `out`. The header has 15 bytes and each of at most 1000 rows
-// at most 25: 4 + 1 + 10 + 1 + 8 + 1.
+// at most 25: 4 + 1 + 10 + 1 + 8 + 1. It answers the text's length, as `cues` does, and not the text as a slice of `out`: where a part of
+// a buffer is handed out, a clause that says what the rest of it holds gets no proof but by hand.
 pub fn draws(input: &[u8], out: &mut [u8; 25015]) -> usize
     ensures { Whole out.old (Draws.text input.now) result out.new }
 {
+    let mut writer = Writer { out, at: 0 };
     match draw_request::read_request(input) {
-        Request::Draws { state, count } => {
-            let end = text::write::bytes(out, 0, b"draw,word,bits\n");
-            put_rows(out, end, state, count)
+        Some(request) => {
+            writer.bytes(b"draw,word,bits\n");
+            put_rows(&mut writer, request.state, request.count);
         }
-        Request::Refused => text::write::refused(out, 0, 8, 1),
+        None => writer.refused(8, 1),
     }
+    writer.at
 }
 
-fn put_sample(out: &mut [u8], at: usize, index: u64, x: f32) -> usize
-    ensures { Written out.old at (Cues.row index x) result out.new }
+fn put_sample(writer: &mut Writer, index: u64, x: f32)
+    ensures { Writes writer.old (Cues.row index x) writer.new }
 {
-    let end = text::write::number(out, at, index, b',');
-    put_pattern(out, end, x, b'\n')
+    writer.number(index, b',');
+    put_pattern(writer, x, b'\n');
 }
 
-fn put_samples(out: &mut [u8], at: usize, samples: &[f32]) -> usize
-    ensures { Written out.old at (Cues.rows 0 samples.now) result out.new }
+fn put_samples(writer: &mut Writer, samples: &[f32])
+    ensures { Writes writer.old (Cues.rows 0 samples.now) writer.new }
 {
-    let mut end = at;
-    let mut i: usize = 0;
-    while i < samples.len() {
-        end = put_sample(out, end, i as u64, samples[i]);
-        i += 1;
+    for (i, x) in samples.iter().enumerate() {
+        put_sample(writer, i as u64, *x);
     }
-    end
-}
-
-// The header and the samples' rows.
-fn put_listing(out: &mut [u8], samples: &[f32]) -> usize
-    ensures { Written out.old 0 (ascii "sample,bits\n" ++ Cues.rows 0 samples.now) result out.new }
-{
-    let end = text::write::bytes(out, 0, b"sample,bits\n");
-    put_samples(out, end, samples)
 }
 
 // What the program `cues` prints for a sheet, at the start of `out`. The header has 12 bytes and each of at most 16384 rows at
@@ -92,11 +77,14 @@ fn put_listing(out: &mut [u8], samples: &[f32]) -> usize
 pub fn cues(sheet: &[u8], out: &mut [u8; 245772]) -> usize
     ensures { Whole out.old (Cues.text sheet.now) result out.new }
 {
+    let mut writer = Writer { out, at: 0 };
     let mut samples = [0.0f32; 16384];
     match cue_render::render(sheet, &mut samples) {
-        Judgment::Accepted { head, cues: _ } => put_listing(out, &samples[..head.length as usize]),
-        Judgment::Refused { refusal, line } => {
-            text::write::refused(out, 0, refusal.number(), line as u64)
+        Ok(accepted) => {
+            writer.bytes(b"sample,bits\n");
+            put_samples(&mut writer, &samples[..accepted.head.length as usize]);
         }
+        Err(refused) => writer.refused(refused.refusal.into(), refused.line as u64),
     }
+    writer.at
 }

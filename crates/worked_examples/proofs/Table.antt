@@ -22,7 +22,7 @@ use Rattle.listing.specs.Draws as Draws
 
 -- the listing of `draws` for the input `33,2` and its line end
 draws_33_2 : Draws.text (ascii "33,2\n") ≡ ascii "draw,word,bits\n1,1068833548,3e7ed46c\n2,1167334139,3e8b2836\n"
-unfolding Draws.text Draws.answer Draws.rows Draws.row Requests.read_request Requests.read_line Requests.both Read.ended Read.body Read.fields Read.field Read.attach Read.decimal Read.well_formed Read.numeral Read.up_to Read.index_of Write.decimal Write.decimal_within Write.pattern get_word get_float to_bits of_int div round
+unfolding Draws.text Draws.answer Draws.rows Draws.row Requests.read_request Requests.read_line Requests.both Read.ended Read.body Read.fields Read.field Read.decimal Read.well_formed Read.numeral Read.up_to Read.digit Write.decimal Write.decimal_within Write.pattern get_word get_float to_bits of_int div round
 draws_33_2 = refl
 
 -- words as floats, each from the state that draws it

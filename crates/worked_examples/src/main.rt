@@ -2,23 +2,28 @@
 #![tactic(auto)]
 
 use analog_bass_drum::AnalogBassDrum;
-use cue_sheet::Judgment;
 use hihat::{Hihat, VcaType};
-use refusal::Answer;
+use refusal::Refused;
 use std::io;
 
-fn print_number(rt: &HostRuntime, example: &str, number: u32) -> io::Result<()> {
+fn print(rt: &HostRuntime, example: &str, number: u32) -> io::Result<()> {
     println!(rt; "{example}: {number}")
 }
 
-fn print(rt: &HostRuntime, example: &str, answer: Answer) -> io::Result<()> {
-    print_number(rt, example, answer.number())
+// 0 of an accepted call.
+fn number<V: Copy>(call: Result<V, Refused<V>>) -> u32 {
+    match call {
+        Ok(_) => 0,
+        Err(refused) => refused.refusal.into(),
+    }
+}
+
+fn started(rate: f32) -> Result<AnalogBassDrum, Refused<AnalogBassDrum>> {
+    AnalogBassDrum::ZERO.init(rate)
 }
 
 // A bass struck at f0, over a block.
-fn struck(f0: f32, out: &mut [f32]) -> Answer {
-    let started = AnalogBassDrum::ZERO.init(48000.0);
-    let voice = started.voice;
+fn struck(f0: f32, out: &mut [f32]) -> Result<AnalogBassDrum, Refused<AnalogBassDrum>> {
     let knobs = analog_bass_drum::Knobs {
         f0,
         tone: 0.5,
@@ -26,17 +31,11 @@ fn struck(f0: f32, out: &mut [f32]) -> Answer {
         attack_fm_amount: 0.0,
         self_fm_amount: 0.0,
     };
-    let rendered = voice.render(true, 1.0, knobs, out);
-    rendered.answer
-}
-
-fn started(rate: f32) -> Answer {
-    let started = AnalogBassDrum::ZERO.init(rate);
-    started.answer
+    started(48000.0)?.render(true, 1.0, knobs, out)
 }
 
 // A hi-hat whose record holds no rate.
-fn struck_unstarted(f0: f32, out: &mut [f32]) -> Answer {
+fn struck_unstarted(f0: f32, out: &mut [f32]) -> Result<Hihat, Refused<Hihat>> {
     let knobs = hihat::Knobs {
         sustain: false,
         accent: 1.0,
@@ -47,37 +46,36 @@ fn struck_unstarted(f0: f32, out: &mut [f32]) -> Answer {
         resonance: true,
         two_stage_envelope: false,
     };
-    let rendered = Hihat::ZERO.render(true, VcaType::Swing, knobs, out);
-    rendered.answer
+    Hihat::ZERO.render(true, VcaType::Swing, knobs, out)
 }
 
 // A sheet of two samples into a lent buffer. Where it is refused, its line too.
 fn print_rendered(rt: &HostRuntime, example: &str, out: &mut [f32]) -> io::Result<()> {
     match cue_render::render(b"48000,2\n", out) {
-        Judgment::Accepted { head: _, cues: _ } => print_number(rt, example, 0),
-        Judgment::Refused { refusal, line } => {
-            print_number(rt, example, refusal.number())?;
-            print_number(rt, "its line", line)
+        Ok(_) => print(rt, example, 0),
+        Err(refused) => {
+            print(rt, example, refused.refusal.into())?;
+            print(rt, "its line", refused.line)
         }
     }
 }
 
 fn main(rt: HostRuntime) -> io::Result<()> {
-    print(&rt, "rate 16000.0", started(16000.0))?;
-    print(&rt, "rate 15999.0", started(15999.0))?;
+    print(&rt, "rate 16000.0", number(started(16000.0)))?;
+    print(&rt, "rate 15999.0", number(started(15999.0)))?;
 
     let mut samples = [0.0f32; 16385];
-    print(&rt, "16385 samples", struck(0.01, &mut samples))?;
+    print(&rt, "16385 samples", number(struck(0.01, &mut samples)))?;
     let mut most = [0.0f32; 16384];
-    print(&rt, "16384 samples", struck(0.01, &mut most))?;
+    print(&rt, "16384 samples", number(struck(0.01, &mut most)))?;
 
     let mut block = [0.0f32; 64];
-    print(&rt, "f0 0.5", struck(0.5, &mut block))?;
-    print(&rt, "f0 0.75", struck(0.75, &mut block))?;
+    print(&rt, "f0 0.5", number(struck(0.5, &mut block)))?;
+    print(&rt, "f0 0.75", number(struck(0.75, &mut block)))?;
     print(
         &rt,
         "a hi-hat of rate 0.0, f0 not-a-number",
-        struck_unstarted(0.0 / 0.0, &mut block),
+        number(struck_unstarted(0.0 / 0.0, &mut block)),
     )?;
 
     let mut one = [0.0f32; 1];

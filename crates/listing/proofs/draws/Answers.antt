@@ -4,11 +4,12 @@ use Rattle.text.proofs.Written.{then}
 use Rattle.listing.specs.Draws.{answer}
 use Rattle.listing.proofs.Lengths.{listed}
 use Rattle.listing.proofs.draws.Goals as goal
+use Rattle.listing.proofs.draws.Goals.{in-Some, in-None}
 
-pub returns-in-Draws : goal.returns-in-Draws
+pub returns : goal.returns
 unfolding answer
-returns-in-Draws c = listed _ c.read_request.ensures c.in-Draws.is (omega arith) (then c.bytes-end.ensures c.put_rows.ensures)
-
-pub returns-in-Refused : goal.returns-in-Refused
-unfolding answer
-returns-in-Refused c = listed _ c.read_request.ensures c.in-Refused.is (omega arith) c.refused.ensures
+returns c =
+    elim c.match-read_request.branch [
+      | in-Some w ↦ rw w.writer-is (listed _ c.read_request.ensures w.in-Some.is (omega arith) (then w.bytes.ensures w.put_rows.ensures).written)
+      | in-None w ↦ rw w.writer-is (listed _ c.read_request.ensures w.in-None.is (omega arith) w.refused.ensures.written)
+    ]

@@ -3,4 +3,4 @@ use Rattle.text.proofs.Written.{then}
 use Rattle.listing.proofs.put_pattern.Goals as goal
 
 pub returns : goal.returns
-returns c = then (rw c.to_bits.ensures at c.pattern-end.ensures) c.byte.ensures
+returns c = then (rw c.to_bits.ensures at c.pattern.ensures) c.byte.ensures

@@ -1,7 +1,0 @@
--- The filter's value in the definition's turn.
-use Rattle.hihat.specs.Hihat.{high_passed}
-use Rattle.hihat.proofs.turn.Turn.high_passed.Goals as goal
-
-pub returns : goal.returns
-unfolding high_passed
-returns c = rw c.process-o.ensures

@@ -1,4 +1,4 @@
-// Blocks added sample by sample.
+// Blocks added sample by sample, by their places: a `zip` with `iter_mut()` proves nothing of what it writes.
 ghost use Rattle.std.specs.Prelude.{◌≡◌, map, length};
 ghost use Rattle.std.proofs.Math.Option.{some};
 ghost use Rattle.track.specs.Mix as spec;

@@ -174,7 +174,7 @@ impl AnalogBassDrum {
         }
     }
 
-    // The loop over the block.
+    // The loop over the block. By index: at rest what is left of the block is handed on, which a loop over `iter_mut` holds.
     #[inline(never)]
     fn fill(self, settings: Settings, out: &mut [f32]) -> Self
         ensures voice { result ≡ after (spec.step settings) (length out.old) self }
@@ -247,6 +247,7 @@ impl AnalogBassDrum {
     }
 
     // Whether the turn leaves the pulses and their low-passes as they are.
+    // (A derived `==` would have -0.0 equal to 0.0, and a NaN unequal to itself.)
     fn is_at_rest(self, e: Excitation) -> bool
         ensures { (result ≡ true → AtRest self e) × (AtRest self e → result ≡ true) }
     {

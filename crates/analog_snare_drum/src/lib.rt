@@ -243,6 +243,7 @@ impl AnalogSnareDrum {
     }
 
     // Whether the turn leaves the pulse and its low-pass as they are.
+    // (A derived `==` would have -0.0 equal to 0.0, and a NaN unequal to itself.)
     fn is_at_rest(self, e: Excitation) -> bool
         ensures { (result ≡ true → AtRest self e) × (AtRest self e → result ≡ true) }
     {

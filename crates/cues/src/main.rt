@@ -8,7 +8,7 @@ use std::io::Write;
 fn main(rt: HostRuntime) -> io::Result<()> {
     let mut sheet = [0u8; 4096];
     let n = input::read_full(&mut rt.stdin(), &mut sheet)?;
-    let mut output = [0u8; 245772];
+    let mut output = [0u8; listing::MAX_CUES_LEN];
     let length = listing::cues(&sheet[..n], &mut output);
     rt.stdout().write_all(&output[..length])
 }

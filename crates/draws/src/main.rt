@@ -9,7 +9,7 @@ use std::io::Write;
 fn main(rt: HostRuntime) -> io::Result<()> {
     let mut request = [0u8; 17];
     let n = input::read_full(&mut rt.stdin(), &mut request)?;
-    let mut output = [0u8; 25015];
+    let mut output = [0u8; listing::MAX_DRAWS_LEN];
     let length = listing::draws(&request[..n], &mut output);
     rt.stdout().write_all(&output[..length])
 }

@@ -40,10 +40,12 @@ fn put_rows(writer: &mut Writer, state: u32, count: u32)
     }
 }
 
-// What the program `draws` prints for its input, at the start of `out`. The header has 15 bytes and each of at most 1000 rows
-// at most 25: 4 + 1 + 10 + 1 + 8 + 1. It answers the text's length, as `cues` does, and not the text as a slice of `out`: where a part of
-// a buffer is handed out, a clause that says what the rest of it holds gets no proof but by hand.
-pub fn draws(input: &[u8], out: &mut [u8; 25015]) -> usize
+// The length of the longest text that `draws` gives: the header, and 1000 rows of at most 4 + 1 + 10 + 1 + 8 + 1.
+pub const MAX_DRAWS_LEN: usize = 15 + 1000 * 25;
+
+// What the program `draws` prints for its input, at the start of `out`. It answers the text's length, as `cues` does, and not the text as a slice
+// of `out`: where a part of a buffer is handed out, a clause that says what the rest of it holds gets no proof but by hand.
+pub fn draws(input: &[u8], out: &mut [u8; MAX_DRAWS_LEN]) -> usize
     ensures { Whole out.old (Draws.text input.now) result out.new }
 {
     let mut writer = Writer { out, at: 0 };
@@ -72,9 +74,11 @@ fn put_samples(writer: &mut Writer, samples: &[f32])
     }
 }
 
-// What the program `cues` prints for a sheet, at the start of `out`. The header has 12 bytes and each of at most 16384 rows at
-// most 15: 5 + 1 + 8 + 1.
-pub fn cues(sheet: &[u8], out: &mut [u8; 245772]) -> usize
+// The length of the longest text that `cues` gives: the header, and 16384 rows of at most 5 + 1 + 8 + 1.
+pub const MAX_CUES_LEN: usize = 12 + 16384 * 15;
+
+// What the program `cues` prints for a sheet, at the start of `out`.
+pub fn cues(sheet: &[u8], out: &mut [u8; MAX_CUES_LEN]) -> usize
     ensures { Whole out.old (Cues.text sheet.now) result out.new }
 {
     let mut writer = Writer { out, at: 0 };

@@ -13,7 +13,7 @@ fn print_sheet(rt: &HostRuntime, name: &str) -> io::Result<()> {
     };
     let mut sheet = [0u8; 4096];
     let n = input::read_full(&mut file, &mut sheet)?;
-    let mut output = [0u8; 245772];
+    let mut output = [0u8; listing::MAX_CUES_LEN];
     let length = listing::cues(&sheet[..n], &mut output);
     out.write_all(&output[..length])
 }

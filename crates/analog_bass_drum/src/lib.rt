@@ -77,7 +77,7 @@ struct Excitation {
 }
 
 impl AnalogBassDrum {
-    // Every field zero, for `init` to overwrite.
+    // Every field zero, for `init` to overwrite. (No `Default`: the scope leaves it out.)
     pub const ZERO: AnalogBassDrum = AnalogBassDrum {
         pulse_remaining_samples: 0,
         fm_pulse_remaining_samples: 0,
@@ -295,7 +295,7 @@ impl AnalogBassDrum {
         }
     }
 
-    // Q41 / Q42, C39 / C52, C39 / R161
+    // Q41 / Q42, C39 / C52, C39 / R161. No `TriggerPulse`: this one has two outputs, of fixed heights, and only the second decays.
     fn fm_pulse(self) -> FmPulse
         ensures { result ≡ fm_pulse self }
     {

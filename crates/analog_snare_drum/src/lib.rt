@@ -77,7 +77,7 @@ struct ShellOutput {
 }
 
 impl AnalogSnareDrum {
-    // Every field zero, for `init` to overwrite.
+    // Every field zero, for `init` to overwrite. (No `Default`: the scope leaves it out.)
     pub const ZERO: AnalogSnareDrum = AnalogSnareDrum {
         pulse_remaining_samples: 0,
         pulse: 0.0,

@@ -4,7 +4,7 @@ ghost use Rattle.refusal.specs.Refusal.{call_number, call_voice};
 ghost use Rattle.analog_bass_drum.specs.AnalogBassDrum as spec;
 
 use analog_bass_drum::{AnalogBassDrum, Knobs};
-use refusal::Refused;
+use refusal::{Refused, number_and_voice};
 
 // The number of the refusal, 0 for an accepted call, and the voice after the call.
 #[repr(C)]
@@ -18,13 +18,8 @@ impl From<Result<AnalogBassDrum, Refused<AnalogBassDrum>>> for AnalogBassDrumAns
     ghost from_gives = { λ r a. (a.number ≡ call_number r) × (a.voice ≡ call_voice r) };
 
     fn from(answer: Result<AnalogBassDrum, Refused<AnalogBassDrum>>) -> Self {
-        match answer {
-            Ok(voice) => AnalogBassDrumAnswered { number: 0, voice },
-            Err(refused) => AnalogBassDrumAnswered {
-                number: refused.refusal.into(),
-                voice: refused.voice,
-            },
-        }
+        let (number, voice) = number_and_voice(answer);
+        AnalogBassDrumAnswered { number, voice }
     }
 }
 

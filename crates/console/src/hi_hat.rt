@@ -8,7 +8,7 @@ ghost use Rattle.console.specs.Enums.{vca_type};
 
 use crate::enums;
 use hihat::{Hihat, Knobs, SquareNoise};
-use refusal::Refused;
+use refusal::{Refused, number_and_voice};
 
 // The number of the refusal, 0 for an accepted call, and the voice after the call.
 #[repr(C)]
@@ -22,13 +22,8 @@ impl From<Result<Hihat, Refused<Hihat>>> for HihatAnswered {
     ghost from_gives = { λ r a. (a.number ≡ call_number r) × (a.voice ≡ call_voice r) };
 
     fn from(answer: Result<Hihat, Refused<Hihat>>) -> Self {
-        match answer {
-            Ok(voice) => HihatAnswered { number: 0, voice },
-            Err(refused) => HihatAnswered {
-                number: refused.refusal.into(),
-                voice: refused.voice,
-            },
-        }
+        let (number, voice) = number_and_voice(answer);
+        HihatAnswered { number, voice }
     }
 }
 

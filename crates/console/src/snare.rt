@@ -4,7 +4,7 @@ ghost use Rattle.refusal.specs.Refusal.{call_number, call_voice};
 ghost use Rattle.analog_snare_drum.specs.AnalogSnareDrum as spec;
 
 use analog_snare_drum::{AnalogSnareDrum, Knobs};
-use refusal::Refused;
+use refusal::{Refused, number_and_voice};
 
 // The number of the refusal, 0 for an accepted call, and the voice after the call.
 #[repr(C)]
@@ -18,13 +18,8 @@ impl From<Result<AnalogSnareDrum, Refused<AnalogSnareDrum>>> for AnalogSnareDrum
     ghost from_gives = { λ r a. (a.number ≡ call_number r) × (a.voice ≡ call_voice r) };
 
     fn from(answer: Result<AnalogSnareDrum, Refused<AnalogSnareDrum>>) -> Self {
-        match answer {
-            Ok(voice) => AnalogSnareDrumAnswered { number: 0, voice },
-            Err(refused) => AnalogSnareDrumAnswered {
-                number: refused.refusal.into(),
-                voice: refused.voice,
-            },
-        }
+        let (number, voice) = number_and_voice(answer);
+        AnalogSnareDrumAnswered { number, voice }
     }
 }
 

@@ -3,7 +3,7 @@ ghost use Rattle.std.specs.Prelude.{◌≡◌};
 ghost use Rattle.refusal.specs.Refusal.{call_number, call_voice};
 ghost use Rattle.synthetic_snare_drum.specs.SyntheticSnareDrum as spec;
 
-use refusal::Refused;
+use refusal::{Refused, number_and_voice};
 use synthetic_snare_drum::{Knobs, SyntheticSnareDrum};
 
 // The number of the refusal, 0 for an accepted call, and the voice after the call.
@@ -18,13 +18,8 @@ impl From<Result<SyntheticSnareDrum, Refused<SyntheticSnareDrum>>> for Synthetic
     ghost from_gives = { λ r a. (a.number ≡ call_number r) × (a.voice ≡ call_voice r) };
 
     fn from(answer: Result<SyntheticSnareDrum, Refused<SyntheticSnareDrum>>) -> Self {
-        match answer {
-            Ok(voice) => SyntheticSnareDrumAnswered { number: 0, voice },
-            Err(refused) => SyntheticSnareDrumAnswered {
-                number: refused.refusal.into(),
-                voice: refused.voice,
-            },
-        }
+        let (number, voice) = number_and_voice(answer);
+        SyntheticSnareDrumAnswered { number, voice }
     }
 }
 

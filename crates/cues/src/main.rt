@@ -6,7 +6,7 @@ use std::io;
 use std::io::Write;
 
 fn main(rt: HostRuntime) -> io::Result<()> {
-    let mut sheet = [0u8; 4096];
+    let mut sheet = [0u8; listing::SHEET_BUFFER_LEN];
     let n = input::read_full(&mut rt.stdin(), &mut sheet)?;
     let mut output = [0u8; listing::MAX_CUES_LEN];
     let length = listing::cues(&sheet[..n], &mut output);

@@ -70,7 +70,7 @@ pub struct OnePoleOutput {
 }
 
 impl OnePole {
-    // Every field zero, for `init` to overwrite.
+    // Every field zero, for `init` to overwrite. (No `Default`: the scope leaves it out.)
     pub const ZERO: OnePole = OnePole {
         g: 0.0,
         gi: 0.0,
@@ -183,7 +183,7 @@ impl Passed {
 }
 
 impl Svf {
-    // Every field zero, for `init` to overwrite.
+    // Every field zero, for `init` to overwrite. (No `Default`: the scope leaves it out.)
     pub const ZERO: Svf = Svf {
         g: 0.0,
         r: 0.0,

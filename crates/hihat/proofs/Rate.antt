@@ -3,7 +3,7 @@ use Rattle.std.proofs.Common.{◌≡◌, ℕ, zero, suc, Bool, true, false, cond
 use lib.Ieee.{Float}
 use Rattle.block.specs.Block.{Passed}
 use Rattle.block.proofs.Blocks.{scanned_keeps}
-use Rattle.refusal.specs.Refusal.{unless_refused}
+use Rattle.refusal.specs.Refusal.{unless_refused, strike_refusal}
 use Rattle.refusal.proofs.ByNumber.{call_keeps}
 use Rattle.hihat.specs.declared.Hihat.{Hihat}
 use Rattle.hihat.specs.declared.Knobs.{Knobs}
@@ -31,4 +31,4 @@ rate_kept v trigger kind k out = kept v k _ out (spec.render_refusal v.sample_ra
 
 pub strike_keeps_rate : (v : Hihat) (accent decay : Float) → (spec.strike v accent decay).state.sample_rate ≡ v.sample_rate
 unfolding spec.triggered
-strike_keeps_rate v accent decay = call_keeps (λ (w : Hihat). w.sample_rate) (spec.strike_refusal v.sample_rate accent decay) _ v refl
+strike_keeps_rate v accent decay = call_keeps (λ (w : Hihat). w.sample_rate) (strike_refusal v.sample_rate accent decay) _ v refl

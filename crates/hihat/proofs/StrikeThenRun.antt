@@ -1,10 +1,10 @@
 -- A run asks what `render` asks, a strike a part of it, and a struck voice has the settings of the one before: where all is passed the block is the same.
 use Rattle.std.proofs.Common.{◌≡◌, ℕ, length, refl}
 use lib.Ieee.{Float}
-use Rattle.refusal.specs.Refusal.{is_sample_rate, is_block_length, is_frequency, is_unit}
+use Rattle.refusal.specs.Refusal.{is_sample_rate, is_block_length, is_frequency, is_unit, strike_refusal}
 use Rattle.refusal.proofs.Rows.{accepted}
 use Rattle.refusal.proofs.StrikeAndRun.{asked_again}
-use Rattle.hihat.specs.Hihat.{triggered, strike_refusal, strike, settings, render_refusal}
+use Rattle.hihat.specs.Hihat.{triggered, strike, settings, render_refusal}
 use Rattle.hihat.specs.StrikeThenRun.{StrikeThenRun}
 use Rattle.hihat.specs.declared.Knobs.{Knobs}
 use Rattle.hihat.proofs.Rate.{strike_keeps_rate}

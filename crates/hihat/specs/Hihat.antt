@@ -5,7 +5,7 @@ use Rattle.ieee754.specs.Single.{◌⊕◌, ◌⊖◌, ◌⊗◌, ◌⊘◌, dec
 use Rattle.ieee754.specs.Operations.{abs, clamp}
 use Rattle.block.specs.declared.Turn.{Turn}
 use Rattle.block.specs.Block.{Passed, filled, pass, setting}
-use Rattle.refusal.specs.Refusal.{Call, call, ask, is_sample_rate, is_block_length, is_frequency, is_unit}
+use Rattle.refusal.specs.Refusal.{Call, call, ask, is_sample_rate, is_block_length, is_frequency, is_unit, strike_refusal}
 use Rattle.units.specs.Units.{ratio}
 use Rattle.random.specs.Random.{get_float}
 use Rattle.parameter_interpolator.specs.ParameterInterpolator as ParameterInterpolator
@@ -220,12 +220,6 @@ render self trigger vca_type k out =
     call (render_refusal self.sample_rate k (length out)) p.state p.out self out
 
 -- ---- `render` as two calls (specs/StrikeThenRun.antt): a strike is what stands under `if trigger {`, a run is all else
-
-unfoldable pub strike_refusal : Float → Float → Float → ℕ
-strike_refusal sample_rate accent decay =
-    ask (is_sample_rate sample_rate) 1
-    (ask (is_unit accent) 4
-    (ask (is_unit decay) 5 0))
 
 abbrev pub strike : Hihat → Float → Float → Call Hihat
 strike self accent decay = call (strike_refusal self.sample_rate accent decay) (triggered self accent decay) [] self []

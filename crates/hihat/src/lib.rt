@@ -5,7 +5,7 @@
 mod passes; // passes.rt: one sample through the passes past the metallic noise
 mod square_noise; // square_noise.rt: the metallic noise
 
-ghost use Rattle.std.specs.Prelude.{◌≡◌, ◌≤◌, if◌then◌else◌, Float, OnOk};
+ghost use Rattle.std.specs.Prelude.{◌≡◌, if◌then◌else◌, Float, IfOk};
 ghost use Rattle.refusal.specs.Refusal.{answer_number, call_number, call_voice};
 ghost use Rattle.ieee754.specs.Single.{◌⊕◌, ◌⊗◌, decimal};
 ghost use Rattle.hihat.specs.Hihat as spec;
@@ -15,7 +15,7 @@ ghost use Rattle.hihat.specs.OnePass.{tuned, step};
 use block::Turn;
 use filter::{FrequencyApproximation, Svf};
 use parameter_interpolator::ParameterInterpolator;
-use refusal::{Refusal, Refused, ask, is_block_length, is_frequency, is_sample_rate, is_unit};
+use refusal::{BlockLength, Refusal, Refused, ask, ask_strike, is_frequency, is_sample_rate, is_unit};
 pub use square_noise::SquareNoise;
 
 #[derive(Clone, Copy, Debug, PartialEq, Eq)]
@@ -52,7 +52,7 @@ pub struct Knobs {
     pub two_stage_envelope: bool,
 }
 
-// What stays the same over a block.
+// What stays the same over a block. `sustain` and the increment of its gain are no `Option`: as in the Rust, a block that does not sustain has an interpolator too.
 #[derive(Clone, Copy)]
 struct Settings {
     envelope_decay: f32,
@@ -69,7 +69,7 @@ struct Settings {
 }
 
 impl Hihat {
-    // Every field zero, for `init` to overwrite.
+    // Every field zero, for `init` to overwrite. (No `Default`: the scope leaves it out.)
     pub const ZERO: Hihat = Hihat {
         sample_rate: 0.0,
         envelope: 0.0,
@@ -118,10 +118,10 @@ impl Hihat {
         ensures voice { call_voice result ≡ (render self trigger vca_type knobs out.old).state }
         ensures out { out.new ≡ (render self trigger vca_type knobs out.old).out }
     {
-        knobs
+        let length = knobs
             .asked(self.sample_rate, out.len())
             .map_err(|refusal| refusal.of(self))?;
-        let settings = knobs.settings(self, vca_type, out.len());
+        let settings = knobs.settings(self, vca_type, length);
         let mut voice = self;
         if trigger {
             voice = self.triggered(knobs.accent, knobs.decay);
@@ -134,8 +134,7 @@ impl Hihat {
         ensures number { call_number result ≡ (spec.strike self accent decay).number }
         ensures voice { call_voice result ≡ (spec.strike self accent decay).state }
     {
-        self.asked(accent, decay)
-            .map_err(|refusal| refusal.of(self))?;
+        ask_strike(self.sample_rate, accent, decay).map_err(|refusal| refusal.of(self))?;
         Ok(self.triggered(accent, decay))
     }
 
@@ -150,17 +149,6 @@ impl Hihat {
         ensures out { out.new ≡ (spec.run self vca_type knobs out.old).out }
     {
         self.render(false, vca_type, knobs, out)
-    }
-
-    // The questions of `strike`.
-    #[tactic(auto, unfolding(crate::specs::Hihat::strike_refusal))]
-    fn asked(self, accent: f32, decay: f32) -> Result<(), Refusal>
-        ensures { answer_number result ≡ spec.strike_refusal self.sample_rate accent decay }
-    {
-        ask(is_sample_rate(self.sample_rate), Refusal::SampleRate)?;
-        ask(is_unit(accent), Refusal::Accent)?;
-        ask(is_unit(decay), Refusal::Knob)?;
-        Ok(())
     }
 
     fn triggered(self, accent: f32, decay: f32) -> Self
@@ -231,30 +219,29 @@ impl Hihat {
 impl Knobs {
     // The questions of `render`.
     #[tactic(auto, unfolding(crate::specs::Hihat::render_refusal))]
-    fn asked(self, sample_rate: f32, samples: usize) -> Result<(), Refusal>
+    fn asked(self, sample_rate: f32, samples: usize) -> Result<BlockLength, Refusal>
         ensures number { answer_number result ≡ spec.render_refusal sample_rate self samples }
-        ensures short { OnOk result (samples ≤ 16384) }
+        ensures length { IfOk result (λ length. length ≡ samples) }
     {
         ask(is_sample_rate(sample_rate), Refusal::SampleRate)?;
-        ask(is_block_length(samples), Refusal::BlockLength)?;
+        let length = BlockLength::try_from(samples)?;
         ask(is_frequency(self.f0), Refusal::Frequency)?;
         ask(is_unit(self.accent), Refusal::Accent)?;
         ask(is_unit(self.tone), Refusal::Knob)?;
         ask(is_unit(self.decay), Refusal::Knob)?;
         ask(is_unit(self.noisiness), Refusal::Knob)?;
-        Ok(())
+        Ok(length)
     }
 
     // The lines of `render` outside its passes.
-    fn settings(self, voice: Hihat, vca_type: VcaType, samples: usize) -> Settings
-        requires { samples ≤ 16384 }
-        ensures { result ≡ spec.settings voice vca_type self samples }
+    fn settings(self, voice: Hihat, vca_type: VcaType, length: BlockLength) -> Settings
+        ensures { result ≡ spec.settings voice vca_type self length }
     {
         let noisiness = self.noisiness * self.noisiness;
         let gain = ParameterInterpolator::new(
             voice.sustain_gain,
             self.accent * self.decay,
-            samples as u32,
+            length.into(),
         );
         Settings {
             envelope_decay: 1.0 - 0.003 * units::semitones_to_ratio(-self.decay * 84.0),

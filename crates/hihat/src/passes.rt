@@ -5,6 +5,7 @@ ghost use Rattle.hihat.specs.Hihat as spec;
 use crate::{Hihat, Settings, VcaType};
 use block::Turn;
 use filter::FilterMode;
+use parameter_interpolator::ParameterInterpolator;
 
 impl Hihat {
     // Apply BPF on the metallic noise.
@@ -58,7 +59,11 @@ impl Hihat {
         let vca_type = settings.vca_type;
         let envelope = self.envelope * decay(settings, self.envelope);
         if settings.sustain {
-            let sustain_gain = self.sustain_gain + settings.gain_increment;
+            let gain = ParameterInterpolator {
+                value: self.sustain_gain,
+                increment: settings.gain_increment,
+            };
+            let sustain_gain = gain.next().value;
             return Turn {
                 sample: amplify(vca_type, sample, sustain_gain),
                 next: Hihat {

@@ -15,7 +15,7 @@ pub struct SquareNoise {
 }
 
 impl SquareNoise {
-    // Every field zero, for `init` to overwrite.
+    // Every field zero, for `init` to overwrite. (No `Default`: the scope leaves it out.)
     pub const ZERO: SquareNoise = SquareNoise { phase: [0; 6] };
 
     pub fn init(self) -> Self
@@ -51,13 +51,11 @@ impl SquareNoise {
         SquareNoise { phase }
     }
 
-    // The sample, by how many phases have bit 31 set.
+    // The sample, by how many phases have bit 31 set. Not the product over `ieee754::nearest_f32`: with it the hi-hat takes 109 instructions a sample, and not 99.
     fn level(self) -> f32
         ensures { result ≡ spec.level self.phase }
     {
-        let phase = self.phase;
-        let noise = count_high(phase);
-        match noise {
+        match count_high(self.phase) {
             0 => 0.33 * (0.0 - 1.0),
             1 => 0.33 * (1.0 - 1.0),
             2 => 0.33 * (2.0 - 1.0),

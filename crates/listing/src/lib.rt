@@ -74,6 +74,9 @@ fn put_samples(writer: &mut Writer, samples: &[f32])
     }
 }
 
+// As much of a sheet as the programs read: an accepted one has at most 3,404 bytes.
+pub const SHEET_BUFFER_LEN: usize = 4096;
+
 // The length of the longest text that `cues` gives: the header, and 16384 rows of at most 5 + 1 + 8 + 1.
 pub const MAX_CUES_LEN: usize = 12 + 16384 * 15;
 

@@ -1,5 +1,5 @@
 -- Refusals of a voice's call, their numbers, what a call gives, and the questions. Definitions only.
-use Rattle.std.specs.Prelude.{ℕ, zero, suc, ◌^◌, Bool, true, false, ◌&&◌, List, leb, Float, ⊤, Result, Ok, Err}
+use Rattle.std.specs.Prelude.{ℕ, zero, suc, ◌^◌, Bool, true, false, ◌&&◌, List, leb, Float, Result, Ok, Err}
 use Rattle.std.specs.Float.{binary32}
 use Rattle.std.specs.Float.Ieee.{le, round}
 use Rattle.ieee754.specs.Single.{decimal}
@@ -16,8 +16,8 @@ number Accent = 4
 number Knob = 5
 
 -- the number of an answer, 0 where no question refuses
-abbrev pub answer_number : Result ⊤ Refusal → ℕ
-answer_number (Ok t) = 0
+abbrev pub answer_number : {A : Type 0} → Result A Refusal → ℕ
+answer_number (Ok x) = 0
 answer_number (Err r) = number r
 
 -- what a call hands back: the number, 0 where it is accepted, and the voice
@@ -76,3 +76,11 @@ is_unit x = within (decimal 0 0) (decimal 1 0) x
 -- 5, of the bass's decay alone: a number from 0.0 to 2.0
 unfoldable pub is_bass_decay : Float → Bool
 is_bass_decay x = within (decimal 0 0) (decimal 2 0) x
+
+-- ---- the questions of a strike of the synthetic snare and of the hi-hat: those of `render` but for what it asks of the block, the pitch and the other knobs
+
+unfoldable pub strike_refusal : Float → Float → Float → ℕ
+strike_refusal sample_rate_hz accent decay =
+    ask (is_sample_rate sample_rate_hz) 1
+    (ask (is_unit accent) 4
+    (ask (is_unit decay) 5 0))

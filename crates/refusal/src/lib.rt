@@ -3,6 +3,9 @@
 
 ghost use Rattle.std.specs.Prelude.{◌≡◌, true, false, OnOk, IfErr};
 ghost use Rattle.refusal.specs.Refusal as spec;
+ghost use Rattle.refusal.specs.Asked.{LengthAsked};
+
+use std::marker::Model;
 
 // The questions of a voice's call, by what they ask for, in the order of their numbers.
 #[derive(Clone, Copy, Debug, PartialEq, Eq)]
@@ -47,6 +50,17 @@ impl Refusal {
     }
 }
 
+// A call's result in two parts: its number, 0 where it is accepted, and the voice after it.
+pub fn number_and_voice<V>(call: Result<V, Refused<V>>) -> (u32, V)
+    ensures number { result.0 ≡ spec.call_number call }
+    ensures voice { result.1 ≡ spec.call_voice call }
+{
+    match call {
+        Ok(voice) => (0, voice),
+        Err(refused) => (refused.refusal.into(), refused.voice),
+    }
+}
+
 // A question: the error where it is not passed.
 pub fn ask<E: Drop>(passes: bool, refusal: E) -> Result<(), E>
     ensures passed { OnOk result (passes ≡ true) }
@@ -73,6 +87,41 @@ pub fn is_block_length(samples: usize) -> bool
     samples <= 16384
 }
 
+// The length of a block that passes its question.
+#[derive(Clone, Copy)]
+pub struct BlockLength(u32);
+
+impl Model for BlockLength {
+    ghost use Rattle.std.specs.Prelude.{ℕ, ◌≤◌};
+
+    ghost Value = { ℕ };
+
+    ghost view = { λ n. n.0 };
+
+    ghost invariant = { λ n. n.0 ≤ 16384 };
+
+    ghost inverse = { λ n. record { 0 = n } };
+}
+
+impl TryFrom<usize> for BlockLength {
+    type Error = Refusal;
+
+    ghost try_from_gives = { LengthAsked };
+
+    fn try_from(samples: usize) -> Result<Self, Refusal> {
+        ask(is_block_length(samples), Refusal::BlockLength)?;
+        Ok(BlockLength(samples as u32))
+    }
+}
+
+impl From<BlockLength> for u32 {
+    ghost from_gives = { λ length n. n ≡ length };
+
+    fn from(length: BlockLength) -> u32 {
+        length.0
+    }
+}
+
 // The smallest frequency is 2^-20, written out.
 pub fn is_frequency(f0: f32) -> bool
     ensures { result ≡ spec.is_frequency f0 }
@@ -92,4 +141,15 @@ pub fn is_bass_decay(x: f32) -> bool
     ensures { result ≡ spec.is_bass_decay x }
 {
     within(0.0, 2.0, x)
+}
+
+// The questions of a strike of a voice that stores its rate, asks it again and makes something of the decay: the synthetic snare and the hi-hat.
+#[tactic(auto, unfolding(crate::specs::Refusal::strike_refusal))]
+pub fn ask_strike(sample_rate_hz: f32, accent: f32, decay: f32) -> Result<(), Refusal>
+    ensures { spec.answer_number result ≡ spec.strike_refusal sample_rate_hz accent decay }
+{
+    ask(is_sample_rate(sample_rate_hz), Refusal::SampleRate)?;
+    ask(is_unit(accent), Refusal::Accent)?;
+    ask(is_unit(decay), Refusal::Knob)?;
+    Ok(())
 }

@@ -11,7 +11,7 @@ fn print_sheet(rt: &HostRuntime, name: &str) -> io::Result<()> {
     let Ok(mut file) = fs::open(rt, name) else {
         return out.write_all(b"no such sheet\n");
     };
-    let mut sheet = [0u8; 4096];
+    let mut sheet = [0u8; listing::SHEET_BUFFER_LEN];
     let n = input::read_full(&mut file, &mut sheet)?;
     let mut output = [0u8; listing::MAX_CUES_LEN];
     let length = listing::cues(&sheet[..n], &mut output);

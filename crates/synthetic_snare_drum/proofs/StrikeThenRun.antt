@@ -4,10 +4,10 @@ use mathlib.Core.Path.{◌≡◌, refl}
 use Prim.Native.Nat.{ℕ}
 use lib.ListN.{length}
 use lib.Ieee.{Float}
-use Rattle.refusal.specs.Refusal.{is_sample_rate, is_block_length, is_frequency, is_unit}
+use Rattle.refusal.specs.Refusal.{is_sample_rate, is_block_length, is_frequency, is_unit, strike_refusal}
 use Rattle.refusal.proofs.Rows.{accepted}
 use Rattle.refusal.proofs.StrikeAndRun.{asked_again}
-use Rattle.synthetic_snare_drum.specs.SyntheticSnareDrum.{triggered, strike_refusal, strike, settings, tuned, render_refusal}
+use Rattle.synthetic_snare_drum.specs.SyntheticSnareDrum.{triggered, strike, settings, tuned, render_refusal}
 use Rattle.synthetic_snare_drum.specs.StrikeThenRun.{StrikeThenRun}
 use Rattle.synthetic_snare_drum.specs.declared.Knobs.{Knobs}
 use Rattle.synthetic_snare_drum.proofs.Rate.{strike_keeps_rate}

@@ -7,7 +7,7 @@ use Rattle.ieee754.specs.Single.{◌⊕◌, ◌⊖◌, ◌⊗◌, ◌⊘◌, dec
 use Rattle.ieee754.specs.Operations.{abs, minimum_number, clamp}
 use Rattle.block.specs.declared.Turn.{Turn}
 use Rattle.block.specs.Block.{samples, after}
-use Rattle.refusal.specs.Refusal.{Call, call, ask, is_sample_rate, is_block_length, is_frequency, is_unit}
+use Rattle.refusal.specs.Refusal.{Call, call, ask, is_sample_rate, is_block_length, is_frequency, is_unit, strike_refusal}
 use Rattle.random.specs.Random.{get_float}
 use Rattle.units.specs.Units.{ratio}
 use Rattle.utils.specs.Utils.{sqrt}
@@ -209,12 +209,6 @@ render self trigger k out =
     call (render_refusal self.sample_rate_hz k size) (after (step b size) size begun) (samples (step b size) size begun) self out
 
 -- ---- `render` as two calls (specs/StrikeThenRun.antt): a strike is what stands under `if trigger {`, a run is all else
-
-unfoldable pub strike_refusal : Float → Float → Float → ℕ
-strike_refusal sample_rate_hz accent decay =
-    ask (is_sample_rate sample_rate_hz) 1
-    (ask (is_unit accent) 4
-    (ask (is_unit decay) 5 0))
 
 abbrev pub strike : SyntheticSnareDrum → Float → Float → Call SyntheticSnareDrum
 strike self accent decay = call (strike_refusal self.sample_rate_hz accent decay) (triggered self accent decay) [] self []

@@ -1,7 +1,7 @@
 // drums/synthetic_snare_drum.rs: naive snare drum model, two modulated oscillators and filtered noise, with its sustain mode.
 #![tactic(auto)]
 
-ghost use Rattle.std.specs.Prelude.{◌≡◌, cond, ℕ, ◌≤◌, length, OnOk};
+ghost use Rattle.std.specs.Prelude.{◌≡◌, cond, ℕ, length, IfOk};
 ghost use Rattle.std.specs.Float.Ieee.{lt, neg};
 ghost use Rattle.ieee754.specs.Single.{◌⊕◌, ◌⊖◌, decimal};
 ghost use Rattle.ieee754.specs.Operations.{abs};
@@ -14,7 +14,7 @@ ghost use Rattle.synthetic_snare_drum.specs.Parts.{enveloped};
 use block::Turn;
 use filter::{FilterMode, FrequencyApproximation, OnePole, Svf};
 use parameter_interpolator::ParameterInterpolator;
-use refusal::{Refusal, Refused, ask, is_block_length, is_frequency, is_sample_rate, is_unit};
+use refusal::{BlockLength, Refusal, Refused, ask, ask_strike, is_frequency, is_sample_rate, is_unit};
 
 #[repr(C)]
 #[derive(Clone, Copy)]
@@ -44,7 +44,8 @@ pub struct Knobs {
     pub snappy: f32,
 }
 
-// What stays the same over a block: fm_amount is squared here, and snappy clamped.
+// What stays the same over a block: fm_amount is squared here, and snappy clamped. `sustain` and its increment are no `Option`: as in the Rust, a block that
+// does not sustain has an interpolator too.
 #[derive(Clone, Copy)]
 struct Settings {
     sustain: bool,
@@ -60,7 +61,7 @@ struct Settings {
 }
 
 impl SyntheticSnareDrum {
-    // Every field zero, for `init` to overwrite.
+    // Every field zero, for `init` to overwrite. (No `Default`: the scope leaves it out.)
     pub const ZERO: SyntheticSnareDrum = SyntheticSnareDrum {
         sample_rate_hz: 0.0,
         phase: [0.0, 0.0],
@@ -106,10 +107,10 @@ impl SyntheticSnareDrum {
         ensures voice { call_voice result ≡ (render self trigger knobs out.old).state }
         ensures out { out.new ≡ (render self trigger knobs out.old).out }
     {
-        knobs
+        let length = knobs
             .asked(self.sample_rate_hz, out.len())
             .map_err(|refusal| refusal.of(self))?;
-        let settings = knobs.settings(self, out.len());
+        let settings = knobs.settings(self, length);
         let mut voice = self.tuned(settings);
         if trigger {
             voice = voice.triggered(knobs.accent, knobs.decay);
@@ -122,8 +123,7 @@ impl SyntheticSnareDrum {
         ensures number { call_number result ≡ (spec.strike self accent decay).number }
         ensures voice { call_voice result ≡ (spec.strike self accent decay).state }
     {
-        self.asked(accent, decay)
-            .map_err(|refusal| refusal.of(self))?;
+        ask_strike(self.sample_rate_hz, accent, decay).map_err(|refusal| refusal.of(self))?;
         Ok(self.triggered(accent, decay))
     }
 
@@ -158,17 +158,6 @@ impl SyntheticSnareDrum {
             snare_lp,
             ..self
         }
-    }
-
-    // The questions of `strike`.
-    #[tactic(auto, unfolding(crate::specs::SyntheticSnareDrum::strike_refusal))]
-    fn asked(self, accent: f32, decay: f32) -> Result<(), Refusal>
-        ensures { answer_number result ≡ spec.strike_refusal self.sample_rate_hz accent decay }
-    {
-        ask(is_sample_rate(self.sample_rate_hz), Refusal::SampleRate)?;
-        ask(is_unit(accent), Refusal::Accent)?;
-        ask(is_unit(decay), Refusal::Knob)?;
-        Ok(())
     }
 
     fn triggered(self, accent: f32, decay: f32) -> Self
@@ -273,24 +262,23 @@ impl SyntheticSnareDrum {
 impl Knobs {
     // The questions of `render`.
     #[tactic(auto, unfolding(crate::specs::SyntheticSnareDrum::render_refusal))]
-    fn asked(self, sample_rate_hz: f32, samples: usize) -> Result<(), Refusal>
+    fn asked(self, sample_rate_hz: f32, samples: usize) -> Result<BlockLength, Refusal>
         ensures number { answer_number result ≡ spec.render_refusal sample_rate_hz self samples }
-        ensures short { OnOk result (samples ≤ 16384) }
+        ensures length { IfOk result (λ length. length ≡ samples) }
     {
         ask(is_sample_rate(sample_rate_hz), Refusal::SampleRate)?;
-        ask(is_block_length(samples), Refusal::BlockLength)?;
+        let length = BlockLength::try_from(samples)?;
         ask(is_frequency(self.f0), Refusal::Frequency)?;
         ask(is_unit(self.accent), Refusal::Accent)?;
         ask(is_unit(self.fm_amount), Refusal::Knob)?;
         ask(is_unit(self.decay), Refusal::Knob)?;
         ask(is_unit(self.snappy), Refusal::Knob)?;
-        Ok(())
+        Ok(length)
     }
 
     // The lines before the loop.
-    fn settings(self, voice: SyntheticSnareDrum, samples: usize) -> Settings
-        requires { samples ≤ 16384 }
-        ensures { result ≡ spec.settings voice self samples }
+    fn settings(self, voice: SyntheticSnareDrum, length: BlockLength) -> Settings
+        ensures { result ≡ spec.settings voice self length }
     {
         let rate = voice.sample_rate_hz;
         let decay = self.decay;
@@ -302,7 +290,7 @@ impl Knobs {
         let sustain_gain = ParameterInterpolator::new(
             voice.sustain_gain,
             self.accent * decay,
-            samples as u32,
+            length.into(),
         );
         Settings {
             sustain: self.sustain,

@@ -55,7 +55,8 @@ impl Writer<'_> {
         self.bytes(&digits[first..]);
     }
 
-    // A bit pattern, as eight hexadecimal digits.
+    // A bit pattern, as eight hexadecimal digits, listed as in the definition. (`from_fn` was tried: the eight places are then listed in its proof, which
+    // is twice as long as these lines.)
     pub fn pattern(&mut self, bits: u32)
         ensures { Writes self.old (Write.pattern bits) self.new }
     {

@@ -3,19 +3,15 @@
 
 use analog_bass_drum::AnalogBassDrum;
 use hihat::{Hihat, VcaType};
-use refusal::Refused;
+use refusal::{Refused, number_and_voice};
 use std::io;
 
 fn print(rt: &HostRuntime, example: &str, number: u32) -> io::Result<()> {
     println!(rt; "{example}: {number}")
 }
 
-// 0 of an accepted call.
-fn number<V: Copy>(call: Result<V, Refused<V>>) -> u32 {
-    match call {
-        Ok(_) => 0,
-        Err(refused) => refused.refusal.into(),
-    }
+fn number<V>(call: Result<V, Refused<V>>) -> u32 {
+    number_and_voice(call).0
 }
 
 fn started(rate: f32) -> Result<AnalogBassDrum, Refused<AnalogBassDrum>> {

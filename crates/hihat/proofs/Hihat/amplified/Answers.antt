@@ -4,7 +4,7 @@ use Rattle.hihat.proofs.Hihat.amplified.Goals as goal
 
 pub returns-then-settings : goal.returns-then-settings
 unfolding amplified
-returns-then-settings c = rw (c.amplify.ensures, c.decay.ensures, c.if-settings.true)
+returns-then-settings c = rw (c.amplify.ensures, c.next-sustain_gain.ensures, c.decay.ensures, c.if-settings.true)
 
 pub returns : goal.returns
 unfolding amplified

@@ -48,10 +48,6 @@ then_by_lem {Any} {Level} {a} {b} A B = record { at = λ x y. go x y (a x y) (a 
     go x y false true r s k l = k
     go x y false false r s k l = l
 
-pub neither : (p q : Bool) → (p || q) ≡ false → (p ≡ false) × (q ≡ false)
-neither true q h = absurd (true≢false h)
-neither false q h = (refl, h)
-
 -- ---- by value: a sign and a magnitude, where -a comes before b, and before -b if a is larger
 
 abbrev first : Bool → ℕ → Bool → ℕ → Bool

@@ -1,4 +1,5 @@
 -- The definitions of `ieee754`.
+pub mod Choosing
 pub mod MinMaxLaws
 pub mod Operations
 pub mod Root

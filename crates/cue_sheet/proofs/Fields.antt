@@ -1,15 +1,12 @@
 -- The fields of a cue line as the code cuts them, and what they say of its voice.
-use Rattle.std.proofs.Common.{◌≡◌, ◌⊎◌, inl, inr, ℕ, Bool, true, false, ◌&&◌, cond, eqb, List, [], ◌∷◌, length, Option, Some, None, option_map, option_and_then, refl, sym, ap, ◌∙◌, arith, ne_eqb, eqb-true, Float}
-use Prim.Native.Char.{code}
+use Rattle.std.proofs.Common.{◌≡◌, ◌⊎◌, inl, inr, ℕ, Bool, true, false, ◌&&◌, cond, List, [], ◌∷◌, length, Option, Some, None, option_map, option_and_then, refl, sym, ap, ◌∙◌, arith, ne_eqb, Float}
 use Rattle.std.specs.Prelude.{from_bits}
 use Rattle.std.specs.Float.{binary32}
 use Rattle.std.proofs.lemmas.Option.{option_and_then_some}
 use Rattle.text.specs.Read.{ended, body, fields, field, has_fields, decimal, pattern}
 use Rattle.text.proofs.Lines.{last_field}
 use Rattle.text.proofs.Numeral.{plain_pattern}
-use Rattle.cue_sheet.specs.Fields.{letter_of, voice_of, letter, knob, fields_of, read_fields}
-use Rattle.cue_sheet.specs.declared.voice.Voice.{Voice}
-use Rattle.cue_sheet.specs.declared.voice.Voice.TheVariants.{Bass, Snare, SyntheticSnare, Hihat}
+use Rattle.cue_sheet.specs.Fields.{voice_of, letter, knob, fields_of, read_fields}
 use Rattle.cue_sheet.specs.declared.line.Fields.{Fields}
 
 -- no comma is in a knob
@@ -51,27 +48,14 @@ module _ (line : List ℕ) {b : List ℕ} (end : (ended line ≡ true) × (b ≡
   all r1 r2 r3 r4 r5 c e1 e2 e3 e4 e5 e6 = seven c (e1 ∙ rw (e2, e3, e4, e5, e6))
 
 -- ---- the voice that is read is that of the second field's letter
-letter-voice : (x : ℕ) {v : Voice} → voice_of x ≡ Some v → letter_of v ≡ x
-unfolding voice_of
-letter-voice x {v} h =
-    go (eqb x (code "b")) (eqb x (code "s")) (eqb x (code "y")) (eqb x (code "h")) (eqb-true x _) (eqb-true x _) (eqb-true x _) (eqb-true x _) h
-  where
-    go : (b s y h : Bool) → (b ≡ true → x ≡ code "b") → (s ≡ true → x ≡ code "s") → (y ≡ true → x ≡ code "y") → (h ≡ true → x ≡ code "h")
-        → cond b (Some Bass) (cond s (Some Snare) (cond y (Some SyntheticSnare) (cond h (Some Hihat) None))) ≡ Some v → letter_of v ≡ x
-    go true s y h eb es ey eh e = let same : Bass ≡ v = cc in ap letter_of (sym same) ∙ sym (eb refl)
-    go false true y h eb es ey eh e = let same : Snare ≡ v = cc in ap letter_of (sym same) ∙ sym (es refl)
-    go false false true h eb es ey eh e = let same : SyntheticSnare ≡ v = cc in ap letter_of (sym same) ∙ sym (ey refl)
-    go false false false true eb es ey eh e = let same : Hihat ≡ v = cc in ap letter_of (sym same) ∙ sym (eh refl)
-    go false false false false eb es ey eh e = let z : ◌≡◌ {A = ℕ} 0 1 = cc in absurd (omega arith)
-
-pub voice-letter : (line : List ℕ) {f : Fields} → read_fields line ≡ Some f → letter_of f.voice ≡ letter (field 1 (body line))
+pub voice-read : (line : List ℕ) {f : Fields} → read_fields line ≡ Some f → voice_of (letter (field 1 (body line))) ≡ Some f.voice
 unfolding read_fields fields_of
-voice-letter line {f} h = go (ended line && has_fields 7 (body line)) h
+voice-read line {f} h = go (ended line && has_fields 7 (body line)) h
   where
     k : ℕ → List ℕ
     k i = field i (body line)
 
-    go : (t : Bool) → cond t (fields_of (k 0) (k 1) (k 2) (k 3) (k 4) (k 5) (k 6)) None ≡ Some f → letter_of f.voice ≡ letter (k 1)
+    go : (t : Bool) → cond t (fields_of (k 0) (k 1) (k 2) (k 3) (k 4) (k 5) (k 6)) None ≡ Some f → voice_of (letter (k 1)) ≡ Some f.voice
     go true h =
         option_and_then_some _ (decimal 99999 (k 0)) f h (λ _ _ h.
         option_and_then_some _ (voice_of (letter (k 1))) f h (λ voice read h.
@@ -81,5 +65,5 @@ voice-letter line {f} h = go (ended line && has_fields 7 (body line)) h
         option_and_then_some _ (knob (k 5)) f h (λ _ _ h.
         option_and_then_some _ (knob (k 6)) f h (λ _ _ h.
         let same : voice ≡ f.voice = cc in
-        ap letter_of (sym same) ∙ letter-voice (letter (k 1)) read)))))))
+        rw (← same) read)))))))
     go false h = let z : ◌≡◌ {A = ℕ} 0 1 = cc in absurd (omega arith)

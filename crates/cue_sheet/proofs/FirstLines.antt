@@ -6,9 +6,10 @@ use Rattle.text.specs.Read.{ended, body, fields, field, has_fields, decimal, lin
 use Rattle.text.proofs.Lines.{last_field}
 use Rattle.text.proofs.Numeral.{decimal_read, plain_decimal}
 use Rattle.cue_sheet.specs.Answer.{Told, says, refused, ask_for}
-use Rattle.cue_sheet.specs.Sheet.{SheetAnswer, accepted, refused_at, begin, on_told, head_of, read_first_line, read_line, next, judge_from, judge}
+use Rattle.cue_sheet.specs.CueLine.{read_cue}
+use Rattle.cue_sheet.specs.Sheet.{SheetAnswer, accepted, refused_at, begin, on_told, head_of, read_first_line, next, judge_from, judge}
 use Rattle.cue_sheet.specs.declared.Head.{Head}
-use Rattle.cue_sheet.specs.declared.walk.Walk.{Walk}
+use Rattle.cue_sheet.specs.declared.line.Walk.{Walk}
 use Rattle.cue_sheet.proofs.Fields.{none_after}
 use Rattle.cue_sheet.proofs.Questions.{asked_for}
 use Rattle.cue_sheet.proofs.Walks.{next_head}
@@ -72,7 +73,7 @@ module _ {A : Type 0} (head : Head) (cues line : ℕ) (f : A → SheetAnswer) wh
 same_head : (w : Walk) (ls : List (List ℕ)) {head : Head} {cues : ℕ} → judge_from w ls ≡ accepted head cues → w.head ≡ head
 unfolding judge_from
 same_head w [] h = cc
-same_head w (line ∷ ls) h = sym (next_head w line) ∙ same_head (next w line) ls (from _ _ _ _ (read_line w line) h).goes
+same_head w (line ∷ ls) h = sym (next_head w line) ∙ same_head (next w line) ls (from _ _ _ _ (read_cue w line) h).goes
 
 pub accepted_head : (sheet : List ℕ) {head : Head} {cues : ℕ} → judge sheet ≡ accepted head cues → HeadIn head
 unfolding judge

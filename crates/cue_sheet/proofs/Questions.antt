@@ -7,6 +7,7 @@ use Rattle.cue_sheet.specs.Answer.{number, Told, says, ◌>>=◌, ◌>>◌, ask,
 use Rattle.cue_sheet.specs.Fields.{read_fields}
 use Rattle.cue_sheet.specs.CueLine.{is_decay, cue, cue_of, read_cue}
 use Rattle.cue_sheet.specs.declared.line.Strike.{Strike}
+use Rattle.cue_sheet.specs.declared.line.Walk.{Walk}
 use Rattle.cue_sheet.specs.declared.answer.SheetRefusal.{SheetRefusal}
 use Rattle.cue_sheet.specs.declared.answer.SheetRefusal.TheVariants.{Knobs, FirstLine, CueLine, CueStart, CueCount, BufferLength}
 use Rattle.cue_sheet.specs.declared.voice.Voice.{Voice}
@@ -57,23 +58,23 @@ knobs_of Voice.SyntheticSnare accent f0 a decay c k = k
 knobs_of Voice.Hihat accent f0 a decay c k = k
 
 -- ---- a line that stands for a cue has passed every question, and says what its fields say
-pub record Passed (length cues least_start : ℕ) (line : List ℕ) (s : Strike) : Type 0 where
-  pub few : cues < 64
+pub record Passed (w : Walk) (line : List ℕ) (s : Strike) : Type 0 where
+  pub few : w.cues < 64
   pub fields : Fields
   pub formed : read_fields line ≡ Some fields
   pub read : s ≡ record { start = fields.start; cue = cue_of fields }
-  pub inside : s.start < length
-  pub least : least_start ≤ s.start
+  pub inside : s.start < w.head.length
+  pub least : w.least_start ≤ s.start
   pub knobs : KnobsOf s.cue
 
-pub cue-passed : (length cues least_start : ℕ) (line : List ℕ) {s : Strike} → read_cue length cues least_start line ≡ says s → Passed length cues least_start line s
+pub cue-passed : (w : Walk) (line : List ℕ) {s : Strike} → read_cue w line ≡ says s → Passed w line s
 unfolding read_cue cue_of
-cue-passed length cues least_start line {s} h =
-    let few = passed (ltb cues 64) 10 _ h in
+cue-passed w line {s} h =
+    let few = passed (ltb w.cues 64) 10 _ h in
     let formed = read (read_fields line) 8 _ few.1 in
     let f : Fields = formed.0 in
-    let inside = passed (ltb f.start length) 9 _ formed.2 in
-    let least = passed (leb least_start f.start) 9 _ inside.1 in
+    let inside = passed (ltb f.start w.head.length) 9 _ formed.2 in
+    let least = passed (leb w.least_start f.start) 9 _ inside.1 in
     let frequency = passed (is_frequency f.f0) 3 _ least.1 in
     let accent = passed (is_unit f.accent) 4 _ frequency.1 in
     let a = passed (is_unit f.a) 5 _ accent.1 in
@@ -81,12 +82,12 @@ cue-passed length cues least_start line {s} h =
     let c = passed (is_unit f.c) 5 _ decay.1 in
     let same : record { start = f.start; cue = cue_of f } ≡ s = cc c.1 in
     rw (← same) record {
-      few = ltb-true cues 64 few.0;
+      few = ltb-true w.cues 64 few.0;
       fields = f;
       formed = formed.1;
       read = refl;
-      inside = ltb-true f.start length inside.0;
-      least = leb-true least_start f.start least.0;
+      inside = ltb-true f.start w.head.length inside.0;
+      least = leb-true w.least_start f.start least.0;
       knobs =
           knobs_of f.voice f.accent f.f0 f.a f.decay f.c
           record { frequency = frequency.0; accent_in = accent.0; a_in = a.0; decay_in = decay.0; c_in = c.0 };

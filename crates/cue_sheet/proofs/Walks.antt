@@ -6,9 +6,10 @@ use Rattle.text.specs.Read.{lines, first_line}
 use Rattle.text.proofs.Lines.{line_next}
 use Rattle.cue_sheet.specs.Answer.{says, refused}
 use Rattle.cue_sheet.specs.declared.line.Strike.{Strike}
-use Rattle.cue_sheet.specs.Sheet.{refused_at, on_told, read_line, next, judge_from, strikes_from}
+use Rattle.cue_sheet.specs.CueLine.{read_cue}
+use Rattle.cue_sheet.specs.Sheet.{refused_at, on_told, next, judge_from, strikes_from}
 use Rattle.cue_sheet.specs.Walks.{told_at, Walked}
-use Rattle.cue_sheet.specs.declared.walk.Walk.{Walk}
+use Rattle.cue_sheet.specs.declared.line.Walk.{Walk}
 use Rattle.cue_sheet.specs.declared.walk.RefusedAt.{RefusedAt}
 use Rattle.cue_sheet.specs.declared.walk.CueLines.{CueLines}
 
@@ -36,12 +37,17 @@ module _ (w : Walk) (line : List ℕ) where
   unfolding next
   next_head = refl
 
+  -- a cue is counted
+  pub counted : {s : Strike} → read_cue w line ≡ says s → (next w line).cues ≡ w.cues + 1
+  unfolding next on_told
+  counted e = rw e
+
   -- the least start is kept, or is one above the cue's
-  pub least_kept : {n : ℕ} → read_line w line ≡ refused n → (next w line).least_start ≡ w.least_start
+  pub least_kept : {n : ℕ} → read_cue w line ≡ refused n → (next w line).least_start ≡ w.least_start
   unfolding next on_told
   least_kept e = rw e
 
-  pub least_raised : {s : Strike} → read_line w line ≡ says s → (next w line).least_start ≡ s.start + 1
+  pub least_raised : {s : Strike} → read_cue w line ≡ says s → (next w line).least_start ≡ s.start + 1
   unfolding next on_told
   least_raised e = rw e
 

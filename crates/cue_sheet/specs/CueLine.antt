@@ -8,6 +8,7 @@ use Rattle.cue_sheet.specs.declared.line.Fields.{Fields}
 use Rattle.cue_sheet.specs.declared.answer.SheetRefusal.{SheetRefusal}
 use Rattle.cue_sheet.specs.Answer.{number, Told, says, refused, ◌>>=◌, ◌>>◌, ask, ask_for}
 use Rattle.cue_sheet.specs.declared.line.Strike.{Strike}
+use Rattle.cue_sheet.specs.declared.line.Walk.{Walk}
 use Rattle.cue_sheet.specs.Fields.{read_fields}
 
 -- ---- the cue: a is the tone, or the fm_amount of y, and c what the voice has last
@@ -34,12 +35,12 @@ is_decay Voice.Hihat decay = is_unit decay
 
 -- the questions in their order: fewer than 64 cues so far; the start below the sheet's length and not below the least one, which is 0 at first and
 -- then one above the start before; and what the voices ask of their knobs
-unfoldable pub read_cue : ℕ → ℕ → ℕ → List ℕ → Told Strike
-read_cue length cues least_start line = do
-  ask (nat_lt cues 64) 10
+unfoldable pub read_cue : Walk → List ℕ → Told Strike
+read_cue w line = do
+  ask (nat_lt w.cues 64) 10
   f ← ask_for (read_fields line) 8
-  ask (nat_lt f.start length) 9
-  ask (nat_le least_start f.start) 9
+  ask (nat_lt f.start w.head.length) 9
+  ask (nat_le w.least_start f.start) 9
   ask (is_frequency f.f0) 3
   ask (is_unit f.accent) 4
   ask (is_unit f.a) 5

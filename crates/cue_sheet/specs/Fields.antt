@@ -13,15 +13,8 @@ infixl 10 ◌>>=◌
 abbrev pub ◌>>=◌ : {A B : Type 0} → Option A → (A → Option B) → Option B
 o >>= f = option_and_then f o
 
--- ---- a voice's letter
+-- ---- the voice of a letter
 
-abbrev pub letter_of : Voice → ℕ
-letter_of Bass = code "b"
-letter_of Snare = code "s"
-letter_of SyntheticSnare = code "y"
-letter_of Hihat = code "h"
-
--- the voice of a letter
 unfoldable pub voice_of : ℕ → Option Voice
 voice_of x =
     cond (x == (code "b")) (Some Bass)

@@ -8,7 +8,7 @@ use Rattle.cue_sheet.specs.declared.line.Strike.{Strike}
 use Rattle.cue_sheet.specs.declared.Head.{Head}
 use Rattle.cue_sheet.specs.declared.Accepted.{Accepted}
 use Rattle.cue_sheet.specs.declared.walk.RefusedAt.{RefusedAt}
-use Rattle.cue_sheet.specs.declared.walk.Walk.{Walk}
+use Rattle.cue_sheet.specs.declared.line.Walk.{Walk}
 
 -- ---- the first line, `rate,length`: a rate from 16000 to 96000, and a length from 0 to 16384
 
@@ -26,9 +26,6 @@ read_first_line line = cond (ended line && has_fields 2 (body line)) (head_of (f
 abbrev pub begin : Head → Walk
 begin head = record { head = head; line = 2; cues = 0; least_start = 0 }
 
-abbrev pub read_line : Walk → List ℕ → Told Strike
-read_line w line = read_cue w.head.length w.cues w.least_start line
-
 -- what a line says, or the number of its refusal
 unfoldable pub on_told : {A : Type 0} {B : Type 0} → Told A → (ℕ → B) → (A → B) → B
 on_told (says x) otherwise then = then x
@@ -39,8 +36,8 @@ unfoldable pub next : Walk → List ℕ → Walk
 next w line = record {
   head = w.head;
   line = (w.line + 1) % 2 ^ 32;
-  cues = on_told (read_line w line) (λ _. w.cues) λ _. w.cues + 1;
-  least_start = on_told (read_line w line) (λ _. w.least_start) λ s. s.start + 1;
+  cues = on_told (read_cue w line) (λ _. w.cues) λ _. w.cues + 1;
+  least_start = on_told (read_cue w line) (λ _. w.least_start) λ s. s.start + 1;
 }
 
 -- ---- the judgment: what the first line says and the number of cues, or the number of the first question that is not passed and its line, counted from 1
@@ -56,7 +53,7 @@ answer (Err e) = refused_at (number e.refusal) e.line
 unfoldable pub judge_from : Walk → List (List ℕ) → SheetAnswer
 unfolding on_told
 judge_from w [] = accepted w.head w.cues
-judge_from w (line ∷ lines) = on_told (read_line w line) (λ n. refused_at n w.line) λ _. judge_from (next w line) lines
+judge_from w (line ∷ lines) = on_told (read_cue w line) (λ n. refused_at n w.line) λ _. judge_from (next w line) lines
 
 unfoldable pub judge : List ℕ → SheetAnswer
 judge sheet =
@@ -66,7 +63,7 @@ judge sheet =
 
 unfoldable pub strikes_from : Walk → List (List ℕ) → List Strike
 strikes_from w [] = []
-strikes_from w (line ∷ lines) = on_told (read_line w line) (λ _ strikes. strikes) ◌∷◌ (strikes_from (next w line) lines)
+strikes_from w (line ∷ lines) = on_told (read_cue w line) (λ _ strikes. strikes) ◌∷◌ (strikes_from (next w line) lines)
 
 unfoldable pub strikes : Head → List ℕ → List Strike
 strikes head sheet = strikes_from (begin head) (drop 1 (lines sheet))

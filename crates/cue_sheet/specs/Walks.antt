@@ -3,7 +3,8 @@ use Rattle.std.specs.Prelude.{◌≡◌, ◌<◌, drop, length, Option, Result, 
 use Rattle.text.specs.Read.{first_line}
 use Rattle.cue_sheet.specs.Answer.{number, Told, says, refused}
 use Rattle.cue_sheet.specs.declared.line.Strike.{Strike}
-use Rattle.cue_sheet.specs.Sheet.{read_line, next}
+use Rattle.cue_sheet.specs.CueLine.{read_cue}
+use Rattle.cue_sheet.specs.Sheet.{next}
 use Rattle.cue_sheet.specs.declared.walk.RefusedAt.{RefusedAt}
 use Rattle.cue_sheet.specs.declared.walk.CueLines.{CueLines}
 
@@ -15,7 +16,7 @@ told_at (Err e) = refused (number e.refusal)
 -- what the first of the lines that are left says, a refusal with its line, and the walk after it
 pub record Walked (s : CueLines) (line : Result Strike RefusedAt) (t : CueLines) : Type 0 where
   pub more : 0 < length s.rest.now
-  pub told : told_at line ≡ read_line s.walk (first_line s.rest.now)
+  pub told : told_at line ≡ read_cue s.walk (first_line s.rest.now)
   pub place : IfErr line (λ e. e.line ≡ s.walk.line)
   pub walk : t.walk ≡ next s.walk (first_line s.rest.now)
   pub rest : t.rest.now ≡ drop (length (first_line s.rest.now)) s.rest.now

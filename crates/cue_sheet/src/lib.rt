@@ -2,7 +2,7 @@
 #![tactic(auto)]
 
 mod answer; // answer.rt: the sheet's own refusals
-mod line; // line.rt: one cue line
+mod line; // line.rt: one cue line, read where a walk comes to it
 mod voice; // voice.rt: the voices and their letters
 mod walk; // walk.rt: one cue line after the other
 
@@ -10,10 +10,10 @@ ghost use Rattle.std.specs.Prelude.{◌≡◌};
 ghost use Rattle.cue_sheet.specs.Sheet as spec;
 
 pub use answer::SheetRefusal;
-pub use line::{Cue, Strike, read_cue};
+pub use line::{Cue, Strike, Walk};
 use text::read::{decimal, split_field, split_line, without_end};
 pub use voice::Voice;
-pub use walk::{CueLines, RefusedAt, Walk};
+pub use walk::{CueLines, RefusedAt};
 
 // What the first line says.
 #[derive(Clone, Copy)]
@@ -50,10 +50,10 @@ pub fn judge(sheet: &[u8]) -> Result<Accepted, RefusedAt>
         refusal: SheetRefusal::FirstLine,
         line: 1,
     })?;
-    let mut lines = CueLines::begin(sheet, head);
-    while let Some(line) = lines.next() {
+    let mut cues = 0;
+    for line in CueLines::begin(sheet, head) {
         line?;
+        cues += 1;
     }
-    let Walk { head, cues, .. } = lines.walk;
     Ok(Accepted { head, cues })
 }

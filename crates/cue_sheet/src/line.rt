@@ -1,8 +1,9 @@
-// One line after the first, `start,voice,accent,f0,a,decay,c`: its fields, the questions that it must pass, and its cue.
+// One line after the first, `start,voice,accent,f0,a,decay,c`: its fields, the questions that it must pass where a walk comes to it, and its cue.
 ghost use Rattle.std.specs.Prelude.{◌≡◌};
 ghost use Rattle.cue_sheet.specs.CueLine as spec;
 ghost use Rattle.cue_sheet.specs.Fields.{knob, read_fields};
 
+use crate::Head;
 use crate::answer::SheetRefusal;
 use crate::voice::Voice;
 use ieee754::from_bits;
@@ -144,27 +145,33 @@ fn cue_of(fields: Fields) -> Cue
     }
 }
 
-// A line, its line end included, in a sheet of `length` samples, after `cues` cues. The start before it is below `least_start`.
-#[tactic(auto, unfolding(crate::specs::CueLine::read_cue))]
-pub fn read_cue(
-    line: &[u8],
-    length: u32,
-    cues: u32,
-    least_start: u32,
-) -> Result<Strike, SheetRefusal>
-    ensures { spec.told result ≡ spec.read_cue length cues least_start line.now }
-{
-    ask(cues < 64, SheetRefusal::CueCount)?;
-    let fields = read_fields(line).ok_or(SheetRefusal::CueLine)?;
-    ask(fields.start < length, SheetRefusal::CueStart)?;
-    ask(least_start <= fields.start, SheetRefusal::CueStart)?;
-    ask(is_frequency(fields.f0), Refusal::Frequency)?;
-    ask(is_unit(fields.accent), Refusal::Accent)?;
-    ask(is_unit(fields.a), Refusal::Knob)?;
-    ask(is_decay(fields.voice, fields.decay), Refusal::Knob)?;
-    ask(is_unit(fields.c), Refusal::Knob)?;
-    Ok(Strike {
-        start: fields.start,
-        cue: cue_of(fields),
-    })
+// Where a walk over a sheet has come to: the number of the next line, the cues read so far, and the lowest start that the next cue may have.
+#[derive(Clone, Copy)]
+pub struct Walk {
+    pub head: Head,
+    pub line: u32,
+    pub cues: u32,
+    pub least_start: u32,
+}
+
+impl Walk {
+    // What the next line says, its line end included: its strike, or the first question that it does not pass. `CueLines` takes the walk on.
+    #[tactic(auto, unfolding(crate::specs::CueLine::read_cue))]
+    pub fn read_cue(self, line: &[u8]) -> Result<Strike, SheetRefusal>
+        ensures { spec.told result ≡ spec.read_cue self line.now }
+    {
+        ask(self.cues < 64, SheetRefusal::CueCount)?;
+        let fields = read_fields(line).ok_or(SheetRefusal::CueLine)?;
+        ask(fields.start < self.head.length, SheetRefusal::CueStart)?;
+        ask(self.least_start <= fields.start, SheetRefusal::CueStart)?;
+        ask(is_frequency(fields.f0), Refusal::Frequency)?;
+        ask(is_unit(fields.accent), Refusal::Accent)?;
+        ask(is_unit(fields.a), Refusal::Knob)?;
+        ask(is_decay(fields.voice, fields.decay), Refusal::Knob)?;
+        ask(is_unit(fields.c), Refusal::Knob)?;
+        Ok(Strike {
+            start: fields.start,
+            cue: cue_of(fields),
+        })
+    }
 }

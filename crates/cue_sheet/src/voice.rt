@@ -11,26 +11,17 @@ pub enum Voice {
 }
 
 impl Voice {
-    #[tactic(auto, unfolding(crate::specs::Fields::voice_of))]
-    fn of(letter: u8) -> Option<Self>
-        ensures { result ≡ spec.voice_of letter }
-    {
-        match letter {
-            b'b' => Some(Voice::Bass),
-            b's' => Some(Voice::Snare),
-            b'y' => Some(Voice::SyntheticSnare),
-            b'h' => Some(Voice::Hihat),
-            _ => None,
-        }
-    }
-
     // The voice whose letter a field is.
+    // An Option, and no TryFrom: a letter that is no voice's has no error of its own, its line is refused as a whole, by 8.
     #[tactic(auto, unfolding(crate::specs::Fields::voice_of))]
     pub(crate) fn read(field: &[u8]) -> Option<Self>
         ensures { result ≡ spec.voice_of (spec.letter field.now) }
     {
         match field {
-            [letter] => Voice::of(*letter),
+            [b'b'] => Some(Voice::Bass),
+            [b's'] => Some(Voice::Snare),
+            [b'y'] => Some(Voice::SyntheticSnare),
+            [b'h'] => Some(Voice::Hihat),
             _ => None,
         }
     }

@@ -7,7 +7,7 @@ ghost use Rattle.cue_sheet.specs.Walks.{walks};
 
 use crate::Head;
 use crate::answer::SheetRefusal;
-use crate::line::{Strike, read_cue};
+use crate::line::{Strike, Walk};
 use text::read::split_line;
 
 // A refusal, and the line that is refused, counted from 1.
@@ -15,15 +15,6 @@ use text::read::split_line;
 pub struct RefusedAt {
     pub refusal: SheetRefusal,
     pub line: u32,
-}
-
-// Where a walk has come to: the number of the next line, the cues read so far, and the lowest start that the next cue may have.
-#[derive(Clone, Copy)]
-pub struct Walk {
-    pub head: Head,
-    pub line: u32,
-    pub cues: u32,
-    pub least_start: u32,
 }
 
 // The lines that a walk has not come to yet.
@@ -66,7 +57,7 @@ impl<'a> Iterator for CueLines<'a> {
         let at = self.walk;
         self.rest = rest;
         self.walk.line = at.line.wrapping_add(1);
-        match read_cue(line, at.head.length, at.cues, at.least_start) {
+        match at.read_cue(line) {
             Ok(strike) => {
                 self.walk.cues = at.cues + 1;
                 self.walk.least_start = strike.start + 1;

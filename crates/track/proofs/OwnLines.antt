@@ -8,18 +8,18 @@ use mathlib.Core.Option.{Option, none, some}
 use Rattle.std.specs.Prelude.{Some}
 use Rattle.std.specs.Option.{option_map_or}
 use lib.Dec.{eqb}
+use Rattle.std.proofs.lemmas.Bool.Decides.{nat_tests}
 use Rattle.text.specs.Read.{body, field}
 use Rattle.cue_sheet.specs.Answer.{Told, says, refused}
-use Rattle.cue_sheet.specs.Fields as Fields
-use Rattle.cue_sheet.specs.Fields.{letter, read_fields}
-use Rattle.cue_sheet.specs.CueLine.{cue, cue_of}
+use Rattle.cue_sheet.specs.Fields.{voice_of, letter, read_fields}
+use Rattle.cue_sheet.specs.CueLine.{cue, cue_of, read_cue}
 use Rattle.cue_sheet.specs.declared.line.Strike.{Strike}
-use Rattle.cue_sheet.specs.Sheet.{accepted, refused_at, read_line, on_told, next, judge_from, judge, strikes_from, strikes}
+use Rattle.cue_sheet.specs.Sheet.{accepted, refused_at, on_told, next, judge_from, judge, strikes_from, strikes}
 use Rattle.cue_sheet.specs.declared.Head.{Head}
-use Rattle.cue_sheet.specs.declared.walk.Walk.{Walk}
+use Rattle.cue_sheet.specs.declared.line.Walk.{Walk}
 use Rattle.cue_sheet.specs.declared.voice.Voice.{Voice as CueVoice}
 use Rattle.cue_sheet.specs.declared.voice.Voice.TheVariants.{Bass, Snare, SyntheticSnare, Hihat}
-use Rattle.cue_sheet.proofs.Fields.{voice-letter}
+use Rattle.cue_sheet.proofs.Fields.{voice-read}
 use Rattle.cue_sheet.proofs.Questions.{cue-passed}
 use Rattle.cue_sheet.proofs.FirstLines.{accepted_head, accepted-lines}
 use Rattle.track.specs.Track.{Render, Player, is_own, started, track}
@@ -32,14 +32,14 @@ use Rattle.track.proofs.Alone.{Own, on_own, owns, solo, alone}
 
 -- ---- a line's letter is that of its cue's voice
 letter-read : (line : List ℕ) {f : _} → read_fields line ≡ Some f → letter_of (cue_of f) ≡ letter (field 1 (body line))
-unfolding cue_of
-letter-read line {f} e = go f.voice ∙ voice-letter line e
+unfolding cue_of voice_of
+letter-read line {f} e = go (letter (field 1 (body line))) f.voice (voice-read line e)
   where
-    go : (v : CueVoice) → letter_of (cue v f.accent f.f0 f.a f.decay f.c) ≡ Fields.letter_of v
-    go Bass = refl
-    go Snare = refl
-    go SyntheticSnare = refl
-    go Hihat = refl
+    go : (x : ℕ) (v : CueVoice) → voice_of x ≡ Some v → letter_of (cue v f.accent f.f0 f.a f.decay f.c) ≡ x
+    go x Bass h = grind (arith, nat_tests)
+    go x Snare h = grind (arith, nat_tests)
+    go x SyntheticSnare h = grind (arith, nat_tests)
+    go x Hihat h = grind (arith, nat_tests)
 
 -- ---- the cues that a voice's lines stand for, each line read by itself
 owns_of : {Voice : Type 0} → Player Voice → List (List ℕ) → List (Own Voice)
@@ -65,13 +65,13 @@ module _ {Voice : Type 0} (p : Player Voice) (laws : Lawful p) where
   lines_own : (w : Walk) (ls : List (List ℕ)) {head : Head} {cues : ℕ} → judge_from w ls ≡ accepted head cues → owns p (strikes_from w ls) ≡ owns_of p (lines_of p.letter ls)
   unfolding judge_from strikes_from on_told owns owns_of lines_of
   lines_own w [] h = refl
-  lines_own w (line ∷ ls) {head} {cues} h = go (read_line w line) refl h (lines_own (next w line) ls)
+  lines_own w (line ∷ ls) {head} {cues} h = go (read_cue w line) refl h (lines_own (next w line) ls)
     where
-      go : (x : Told Strike) → read_line w line ≡ x → on_told x (λ n. refused_at n w.line) (λ _. judge_from (next w line) ls) ≡ accepted head cues
+      go : (x : Told Strike) → read_cue w line ≡ x → on_told x (λ n. refused_at n w.line) (λ _. judge_from (next w line) ls) ≡ accepted head cues
           → (judge_from (next w line) ls ≡ accepted head cues → owns p (strikes_from (next w line) ls) ≡ owns_of p (lines_of p.letter ls))
           → owns p (on_told x (λ _ strikes. strikes) ◌∷◌ (strikes_from (next w line) ls)) ≡ owns_of p (lines_of p.letter (line ∷ ls))
       go (says s) e h ih =
-          let q = cue-passed _ _ _ _ e in
+          let q = cue-passed w line e in
           ap₂ (λ (t : Strike) (os : List (Own Voice)). on_own t.start (p.render t.cue) os) q.read (ih h) ∙ line_owns line q.formed ls
       go (refused n) e h ih = let z : ◌≡◌ {A = ℕ} 0 1 = cc in absurd (omega arith)
 

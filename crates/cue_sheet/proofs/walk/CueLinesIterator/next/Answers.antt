@@ -6,10 +6,10 @@ use Rattle.cue_sheet.proofs.Walks.{some, less}
 use Rattle.cue_sheet.proofs.walk.CueLinesIterator.next.Goals as goal
 
 pub overflow_add-self : goal.overflow_add-self
-overflow_add-self c = omega (arith, (cue-passed _ _ _ _ (sym c.in-Ok.ensures)).few)
+overflow_add-self c = omega (arith, (cue-passed _ _ (sym c.in-Ok.ensures)).few)
 
 pub overflow_add-self-in-Ok : goal.overflow_add-self-in-Ok
-overflow_add-self-in-Ok c = let p = cue-passed _ _ _ _ (sym c.in-Ok.ensures) in omega (arith, p.inside)
+overflow_add-self-in-Ok c = let p = cue-passed _ _ (sym c.in-Ok.ensures) in omega (arith, p.inside)
 
 pub returns-in-Ok-clause-steps : goal.returns-in-Ok-clause-steps
 unfolding next on_told

@@ -1,53 +1,30 @@
--- THE PORT'S OWN, which private contracts alone cite: a voice's own cues, and the run of each, from its start to the voice's next. Definitions only.
-use Rattle.std.specs.Prelude.{ℕ, ◌≤◌, ◌≡◌, true, cond, List, [], ◌∷◌, map, pos, length, Float}
-use Rattle.std.specs.Prelude as Rust
-use Rattle.std.proofs.Math.Option.{Option, none, some}
+-- THE PORT'S OWN, which private contracts alone cite: the cues of the lines that are left, a voice's next cue, and where the run before it ends. Definitions only.
+use Rattle.std.specs.Prelude.{ℕ, ◌≤◌, ◌≡◌, true, List, [], ◌∷◌, Option, None, Some, pos, length, Float}
 use Rattle.std.specs.Float.{binary32}
 use Rattle.std.specs.Float.Ieee.{of_int}
-use Rattle.block.specs.Block.{Passed}
 use Rattle.refusal.specs.Refusal.{is_sample_rate}
 use Rattle.text.specs.Read.{lines}
 use Rattle.cue_sheet.specs.declared.line.Strike.{Strike}
 use Rattle.cue_sheet.specs.Sheet.{strikes_from}
 use Rattle.cue_sheet.specs.declared.Head.{Head}
 use Rattle.cue_sheet.specs.declared.walk.CueLines.{CueLines}
-use Rattle.track.specs.Mix.{mixed}
-use Rattle.track.specs.Track.{Render, Player, is_own}
+use Rattle.track.specs.Track.{Render}
+use Rattle.track.proofs.Alone.{Own}
+use Rattle.cue_render.specs.declared.own_track.OwnCue.{OwnCue}
 
 -- the cues of the lines that are left
 abbrev pub left : CueLines → List Strike
 left c = strikes_from c.walk (lines c.rest.now)
 
-module _ {Voice : Type 0} (p : Player Voice) where
-  -- the voice's own among these
-  unfoldable pub own_of : List Strike → List Strike
-  own_of [] = []
-  own_of (s ∷ ss) =
-      let own = own_of ss in
-      cond (is_own (p.render s.cue)) (s ∷ own) own
-
-  -- the voice's own, where the next of them is known and the lines after it are left
-  unfoldable pub from_next : Rust.Option Strike → List Strike → List Strike
-  from_next Rust.None ss = []
-  from_next (Rust.Some s) ss = s ∷ own_of ss
+-- a voice's own cues, the next of them and then those after it: where there is no next, none is left. `renders` is the voice's `render` with what a cue sets
+abbrev pub from_next : {Voice Sets : Type 0} → (Sets → Render Voice) → Option (OwnCue Sets) → List (Own Voice) → List (Own Voice)
+from_next renders None os = []
+from_next renders (Some c) os = record { start = c.start; render = renders c.own } ∷ os
 
 -- the end of the run before a cue, which is the sheet's end where there is none
-abbrev pub end_of : ℕ → Rust.Option Strike → ℕ
-end_of length Rust.None = length
-end_of length (Rust.Some s) = s.start
-
-module _ {Voice : Type 0} where
-  -- what a cue does to a voice and to a block: one of its own triggers the voice, which renders
-  unfoldable pub rendered : Option (Render Voice) → Voice → List Float → Passed Voice
-  rendered none v out = record { state = v; out = out }
-  rendered (some render) v out = record { state = (render v true out).state; out = (render v true out).out }
-
-  -- the same over the places of a run: what is rendered into a scratch block is added
-  unfoldable pub struck : Option (Render Voice) → Voice → List Float → List Float → Passed Voice
-  struck none v scratch out = record { state = v; out = out }
-  struck (some render) v scratch out =
-      let call = render v true scratch in
-      record { state = call.state; out = mixed out (map some call.out) }
+abbrev pub end_of : {Sets : Type 0} → ℕ → Option (OwnCue Sets) → ℕ
+end_of length None = length
+end_of length (Some c) = c.start
 
 -- what an accepted sheet and the buffers for it are
 pub record Playable (head : Head) (out scratch : List Float) : Type 0 where

@@ -1,41 +1,48 @@
 // The bass in a sheet.
+ghost use Rattle.analog_bass_drum.specs.AnalogBassDrum as spec;
 ghost use Rattle.cue_render.specs.Voices.{bass};
 
-use crate::drum::{Drum, handed_back};
+use crate::drum::Drum;
 use analog_bass_drum::{AnalogBassDrum, Knobs};
 use cue_sheet::Cue;
+use refusal::number_and_voice;
 
 impl Drum for AnalogBassDrum {
+    // accent and knobs
+    type Own = (f32, Knobs);
+
     ghost player = { bass };
 
+    ghost renders = { λ own v trigger. spec.render v trigger own.0 own.1 };
+
     fn begin(sample_rate_hz: f32) -> Self {
-        handed_back(AnalogBassDrum::ZERO.init(sample_rate_hz))
+        number_and_voice(AnalogBassDrum::ZERO.init(sample_rate_hz)).1
     }
 
-    #[tactic(auto, unfolding(crate::specs::Voices::bass_cue, track::specs::Track::is_own))]
-    fn plays(cue: Cue) -> bool {
-        matches!(cue, Cue::Bass { .. })
+    #[tactic(auto, unfolding(crate::specs::Voices::bass_cue))]
+    fn own(cue: Cue) -> Option<(f32, Knobs)> {
+        match cue {
+            Cue::Bass {
+                accent,
+                f0,
+                tone,
+                decay,
+                attack_fm_amount,
+            } => Some((
+                accent,
+                Knobs {
+                    f0,
+                    tone,
+                    decay,
+                    attack_fm_amount,
+                    self_fm_amount: 0.0,
+                },
+            )),
+            _ => None,
+        }
     }
 
-    #[tactic(auto, unfolding(crate::specs::Voices::bass_cue, crate::specs::Run::rendered))]
-    fn strike(self, cue: Cue, out: &mut [f32]) -> Self {
-        let Cue::Bass {
-            accent,
-            f0,
-            tone,
-            decay,
-            attack_fm_amount,
-        } = cue
-        else {
-            return self;
-        };
-        let knobs = Knobs {
-            f0,
-            tone,
-            decay,
-            attack_fm_amount,
-            self_fm_amount: 0.0,
-        };
-        handed_back(self.render(true, accent, knobs, out))
+    fn strike(self, (accent, knobs): (f32, Knobs), out: &mut [f32]) -> Self {
+        number_and_voice(self.render(true, accent, knobs, out)).1
     }
 }

@@ -1,44 +1,48 @@
 // The hi-hat in a sheet.
+ghost use Rattle.hihat.specs.Hihat as spec;
+ghost use Rattle.hihat.specs.declared.VcaType.TheVariants.{Swing};
 ghost use Rattle.cue_render.specs.Voices.{hihat};
 
-use crate::drum::{Drum, handed_back};
+use crate::drum::Drum;
 use cue_sheet::Cue;
 use hihat::{Hihat, Knobs, VcaType};
+use refusal::number_and_voice;
 
 impl Drum for Hihat {
+    type Own = Knobs;
+
     ghost player = { hihat };
 
+    ghost renders = { λ knobs v trigger. spec.render v trigger Swing knobs };
+
     fn begin(sample_rate_hz: f32) -> Self {
-        handed_back(Hihat::ZERO.init(sample_rate_hz))
+        number_and_voice(Hihat::ZERO.init(sample_rate_hz)).1
     }
 
-    #[tactic(auto, unfolding(crate::specs::Voices::hihat_cue, track::specs::Track::is_own))]
-    fn plays(cue: Cue) -> bool {
-        matches!(cue, Cue::Hihat { .. })
+    #[tactic(auto, unfolding(crate::specs::Voices::hihat_cue))]
+    fn own(cue: Cue) -> Option<Knobs> {
+        match cue {
+            Cue::Hihat {
+                accent,
+                f0,
+                tone,
+                decay,
+                noisiness,
+            } => Some(Knobs {
+                sustain: false,
+                accent,
+                f0,
+                tone,
+                decay,
+                noisiness,
+                resonance: true,
+                two_stage_envelope: false,
+            }),
+            _ => None,
+        }
     }
 
-    #[tactic(auto, unfolding(crate::specs::Voices::hihat_cue, crate::specs::Run::rendered))]
-    fn strike(self, cue: Cue, out: &mut [f32]) -> Self {
-        let Cue::Hihat {
-            accent,
-            f0,
-            tone,
-            decay,
-            noisiness,
-        } = cue
-        else {
-            return self;
-        };
-        let knobs = Knobs {
-            sustain: false,
-            accent,
-            f0,
-            tone,
-            decay,
-            noisiness,
-            resonance: true,
-            two_stage_envelope: false,
-        };
-        handed_back(self.render(true, VcaType::Swing, knobs, out))
+    fn strike(self, knobs: Knobs, out: &mut [f32]) -> Self {
+        number_and_voice(self.render(true, VcaType::Swing, knobs, out)).1
     }
 }

@@ -1,40 +1,47 @@
 // The analog snare in a sheet.
+ghost use Rattle.analog_snare_drum.specs.AnalogSnareDrum as spec;
 ghost use Rattle.cue_render.specs.Voices.{snare};
 
-use crate::drum::{Drum, handed_back};
+use crate::drum::Drum;
 use analog_snare_drum::{AnalogSnareDrum, Knobs};
 use cue_sheet::Cue;
+use refusal::number_and_voice;
 
 impl Drum for AnalogSnareDrum {
+    // accent and knobs
+    type Own = (f32, Knobs);
+
     ghost player = { snare };
 
+    ghost renders = { λ own v trigger. spec.render v trigger own.0 own.1 };
+
     fn begin(sample_rate_hz: f32) -> Self {
-        handed_back(AnalogSnareDrum::ZERO.init(sample_rate_hz))
+        number_and_voice(AnalogSnareDrum::ZERO.init(sample_rate_hz)).1
     }
 
-    #[tactic(auto, unfolding(crate::specs::Voices::snare_cue, track::specs::Track::is_own))]
-    fn plays(cue: Cue) -> bool {
-        matches!(cue, Cue::Snare { .. })
+    #[tactic(auto, unfolding(crate::specs::Voices::snare_cue))]
+    fn own(cue: Cue) -> Option<(f32, Knobs)> {
+        match cue {
+            Cue::Snare {
+                accent,
+                f0,
+                tone,
+                decay,
+                snappy,
+            } => Some((
+                accent,
+                Knobs {
+                    f0,
+                    tone,
+                    decay,
+                    snappy,
+                },
+            )),
+            _ => None,
+        }
     }
 
-    #[tactic(auto, unfolding(crate::specs::Voices::snare_cue, crate::specs::Run::rendered))]
-    fn strike(self, cue: Cue, out: &mut [f32]) -> Self {
-        let Cue::Snare {
-            accent,
-            f0,
-            tone,
-            decay,
-            snappy,
-        } = cue
-        else {
-            return self;
-        };
-        let knobs = Knobs {
-            f0,
-            tone,
-            decay,
-            snappy,
-        };
-        handed_back(self.render(true, accent, knobs, out))
+    fn strike(self, (accent, knobs): (f32, Knobs), out: &mut [f32]) -> Self {
+        number_and_voice(self.render(true, accent, knobs, out)).1
     }
 }

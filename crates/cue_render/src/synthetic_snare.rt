@@ -1,42 +1,45 @@
 // The synthetic snare in a sheet.
+ghost use Rattle.synthetic_snare_drum.specs.SyntheticSnareDrum as spec;
 ghost use Rattle.cue_render.specs.Voices.{synthetic_snare};
 
-use crate::drum::{Drum, handed_back};
+use crate::drum::Drum;
 use cue_sheet::Cue;
+use refusal::number_and_voice;
 use synthetic_snare_drum::{Knobs, SyntheticSnareDrum};
 
 impl Drum for SyntheticSnareDrum {
+    type Own = Knobs;
+
     ghost player = { synthetic_snare };
 
+    ghost renders = { λ knobs v trigger. spec.render v trigger knobs };
+
     fn begin(sample_rate_hz: f32) -> Self {
-        handed_back(SyntheticSnareDrum::ZERO.init(sample_rate_hz))
+        number_and_voice(SyntheticSnareDrum::ZERO.init(sample_rate_hz)).1
     }
 
-    #[tactic(auto, unfolding(crate::specs::Voices::synthetic_snare_cue, track::specs::Track::is_own))]
-    fn plays(cue: Cue) -> bool {
-        matches!(cue, Cue::SyntheticSnare { .. })
+    #[tactic(auto, unfolding(crate::specs::Voices::synthetic_snare_cue))]
+    fn own(cue: Cue) -> Option<Knobs> {
+        match cue {
+            Cue::SyntheticSnare {
+                accent,
+                f0,
+                fm_amount,
+                decay,
+                snappy,
+            } => Some(Knobs {
+                sustain: false,
+                accent,
+                f0,
+                fm_amount,
+                decay,
+                snappy,
+            }),
+            _ => None,
+        }
     }
 
-    #[tactic(auto, unfolding(crate::specs::Voices::synthetic_snare_cue, crate::specs::Run::rendered))]
-    fn strike(self, cue: Cue, out: &mut [f32]) -> Self {
-        let Cue::SyntheticSnare {
-            accent,
-            f0,
-            fm_amount,
-            decay,
-            snappy,
-        } = cue
-        else {
-            return self;
-        };
-        let knobs = Knobs {
-            sustain: false,
-            accent,
-            f0,
-            fm_amount,
-            decay,
-            snappy,
-        };
-        handed_back(self.render(true, knobs, out))
+    fn strike(self, knobs: Knobs, out: &mut [f32]) -> Self {
+        number_and_voice(self.render(true, knobs, out)).1
     }
 }

@@ -1,4 +1,5 @@
 use Rattle.std.proofs.Common.{◌≡◌, length}
+use Rattle.track.proofs.Alone.{owns}
 use Rattle.track.proofs.Laws.{Tested, lawful}
 use Rattle.cue_render.specs.Run.{left, from_next}
 use Rattle.cue_render.proofs.Pass.{Passing}
@@ -6,7 +7,7 @@ use Rattle.cue_render.proofs.own_track.add_track.Given as goal
 
 abbrev pub invariant-loop-next : goal.invariant-loop-next
 invariant-loop-next g l =
-    ((laws : Tested g.D.Drum.player) → Passing g.D.Drum.player (lawful laws) l.sheet l.head l.initial.out l.voice l.next l.lines l.out) × (length l.scratch ≡ 16384)
+    ((laws : Tested g.D.Drum.player) → Passing g.D.Drum.player (lawful laws) g.D.Drum.renders l.sheet l.head l.initial.out l.voice l.next l.lines l.out) × (length l.scratch ≡ 16384)
 
 abbrev pub decreases-loop-next : goal.decreases-loop-next
-decreases-loop-next g l = length (from_next g.D.Drum.player l.next (left l.lines))
+decreases-loop-next g l = length (from_next g.D.Drum.renders l.next (owns g.D.Drum.player (left l.lines)))

@@ -7,4 +7,4 @@ use Rattle.cue_render.proofs.bass.AnalogBassDrumDrum.begin.Goals as goal
 
 pub returns : goal.returns
 unfolding AnalogBassDrum.ZERO Svf.ZERO round of_bits mul to_unsigned
-returns c = c.handed_back.ensures ∙ c.init.ensures.voice
+returns c = c.number_and_voice.ensures.voice ∙ c.init.ensures.voice

@@ -7,4 +7,4 @@ use Rattle.cue_render.proofs.hi_hat.HihatDrum.begin.Goals as goal
 
 pub returns : goal.returns
 unfolding Hihat.ZERO Svf.ZERO round of_bits
-returns c = c.handed_back.ensures ∙ c.init.ensures.voice
+returns c = c.number_and_voice.ensures.voice ∙ c.init.ensures.voice

@@ -8,4 +8,4 @@ use Rattle.cue_render.proofs.synthetic_snare.SyntheticSnareDrumDrum.begin.Goals 
 
 pub returns : goal.returns
 unfolding SyntheticSnareDrum.ZERO Svf.ZERO OnePole.ZERO round of_bits
-returns c = c.handed_back.ensures ∙ c.init.ensures.voice
+returns c = c.number_and_voice.ensures.voice ∙ c.init.ensures.voice

@@ -1,4 +1,4 @@
--- What the two functions that `choose` is given compute, by the values of their operands. Definitions only.
+-- THE PORT'S OWN, which private contracts alone cite: what the two functions that `choose` is given compute, by the values of their operands. Definitions only.
 use Rattle.std.specs.Prelude.{◌≡◌, Bool, Float}
 
 -- whatever a test answers is what `order` is of the values

@@ -6,7 +6,8 @@ ghost use Rattle.std.specs.Float.{binary32, binary64};
 ghost use Rattle.std.specs.Float.Ieee.{lt, eq, is_nan, add};
 ghost use Rattle.ieee754.specs.Operations as Operations;
 
-// A format's values.
+// A format's values, by the standard's operations on them. Not by `PartialOrd` and `Add`: on a type parameter `x < y` is `partial_cmp`
+// and a test of what that gives, and it would take laws beside `value` to say what these clauses say.
 pub trait Format: Copy {
     // Which format it is, and the value that `self` is.
     ghost format: { Logic.Format };

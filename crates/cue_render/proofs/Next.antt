@@ -15,7 +15,7 @@ use Rattle.cue_sheet.specs.declared.walk.CueLines.{CueLines}
 use Rattle.cue_sheet.specs.declared.walk.RefusedAt.{RefusedAt}
 use Rattle.cue_sheet.proofs.Walks.{rest, over, struck}
 use Rattle.track.specs.Track.{Render, Player}
-use Rattle.track.proofs.Alone.{Own, on_own, owns}
+use Rattle.track.specs.Own.{Own, on_own, owns}
 use Rattle.cue_render.specs.declared.own_track.OwnCue.{OwnCue}
 use Rattle.cue_render.specs.Run.{left, from_next}
 

@@ -21,7 +21,8 @@ use Rattle.track.specs.Track.{Render, Player, started, track}
 use Rattle.track.proofs.Mixed.{silence-length, mixed-length, mixed_none, part_length, mixed_part}
 use Rattle.track.proofs.Cues.{CuesIn, cues_of}
 use Rattle.track.proofs.Laws.{Plays, PlaysAt, Lawful}
-use Rattle.track.proofs.Alone.{Own, on_own, ends, solo_from, solo, owns, alone}
+use Rattle.track.specs.Own.{Own, on_own, ends, solo_from, solo, owns}
+use Rattle.track.proofs.Alone.{alone}
 use Rattle.cue_render.specs.declared.own_track.OwnCue.{OwnCue}
 use Rattle.cue_render.specs.Run.{left, from_next, end_of, Playable}
 

@@ -9,7 +9,7 @@ use Rattle.cue_sheet.specs.Sheet.{strikes_from}
 use Rattle.cue_sheet.specs.declared.Head.{Head}
 use Rattle.cue_sheet.specs.declared.walk.CueLines.{CueLines}
 use Rattle.track.specs.Track.{Render}
-use Rattle.track.proofs.Alone.{Own}
+use Rattle.track.specs.Own.{Own}
 use Rattle.cue_render.specs.declared.own_track.OwnCue.{OwnCue}
 
 -- the cues of the lines that are left

@@ -3,7 +3,7 @@ ghost use Rattle.std.specs.Prelude.{◌≡◌};
 ghost use Rattle.cue_sheet.specs.Sheet.{strikes};
 ghost use Rattle.track.specs.Mix.{mixed};
 ghost use Rattle.track.specs.Track.{track};
-ghost use Rattle.track.proofs.Alone.{owns};
+ghost use Rattle.track.specs.Own.{owns};
 ghost use Rattle.track.proofs.Laws.{Tested};
 ghost use Rattle.cue_render.specs.Run.{Playable, end_of, left, from_next};
 

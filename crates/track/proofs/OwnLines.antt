@@ -28,7 +28,8 @@ use Rattle.track.specs.OwnLines.{lines_of, cue_lines, OwnLinesOnly}
 use Rattle.track.proofs.Laws.{Lawful}
 use Rattle.track.proofs.Cues.{cues_of}
 use Rattle.track.proofs.Accepts.{sheet-rate}
-use Rattle.track.proofs.Alone.{Own, on_own, owns, solo, alone}
+use Rattle.track.specs.Own.{Own, on_own, owns, solo}
+use Rattle.track.proofs.Alone.{alone}
 
 -- ---- a line's letter is that of its cue's voice
 letter-read : (line : List ℕ) {f : _} → read_fields line ≡ Some f → letter_of (cue_of f) ≡ letter (field 1 (body line))

@@ -3,3 +3,4 @@ pub mod Mix
 pub mod Track
 pub mod OwnLines
 pub mod Letters
+pub mod Own

@@ -1,5 +1,5 @@
 use Rattle.std.proofs.Common.{◌≡◌, length}
-use Rattle.track.proofs.Alone.{owns}
+use Rattle.track.specs.Own.{owns}
 use Rattle.track.proofs.Laws.{Tested, lawful}
 use Rattle.cue_render.specs.Run.{left, from_next}
 use Rattle.cue_render.proofs.Pass.{Passing}

@@ -1,6 +1,6 @@
 -- The closure answers with a line's own cue, if it is one.
 use Rattle.std.proofs.Common.{rules}
-use Rattle.track.proofs.Alone.{on_own}
+use Rattle.track.specs.Own.{on_own}
 use Rattle.cue_render.proofs.Next.{found}
 use Rattle.cue_render.proofs.own_track.next_of.Goals as goal
 

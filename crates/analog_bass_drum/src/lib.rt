@@ -121,6 +121,7 @@ impl AnalogBassDrum {
         }
     }
 
+    // The Rust's parameters: no `Option` of an accent, which is asked where there is no trigger too.
     pub fn render(
         self,
         trigger: bool,
@@ -174,7 +175,8 @@ impl AnalogBassDrum {
         }
     }
 
-    // The loop over the block. By index: at rest what is left of the block is handed on, which a loop over `iter_mut` holds.
+    // The loop over the block, a function by itself, since as a part of `render` it takes more instructions a sample (docs/DECISIONS.md).
+    // By index: at rest what is left of the block is handed on, which a loop over `iter_mut` holds.
     #[inline(never)]
     fn fill(self, settings: Settings, out: &mut [f32]) -> Self
         ensures voice { result ≡ after (spec.step settings) (length out.old) self }
@@ -214,7 +216,7 @@ impl AnalogBassDrum {
     fn excitation(self, settings: Settings) -> Excitation
         ensures { result ≡ excitation settings self }
     {
-        // Q39 / Q40
+        // Q39 / Q40. Two fields of the record, which C knows by name, make a pulse.
         let trigger_pulse = TriggerPulse {
             remaining_samples: self.pulse_remaining_samples,
             pulse: self.pulse,
@@ -280,7 +282,6 @@ impl AnalogBassDrum {
             FilterMode::BandPass,
             FilterMode::LowPass,
         );
-        let resonator = d.filter;
         AnalogBassDrum {
             pulse_remaining_samples: e.pulse_remaining_samples,
             fm_pulse_remaining_samples: e.fm_pulse_remaining_samples,
@@ -290,7 +291,7 @@ impl AnalogBassDrum {
             retrig_pulse: m.retrig_pulse,
             lp_out: d.out_2,
             tone_lp: utils::one_pole(self.tone_lp, e.leak + d.out_1, settings.tone_f),
-            resonator,
+            resonator: d.filter,
             ..self
         }
     }

@@ -1,6 +1,6 @@
 // The library for C: every routine of the port under a C name, one call each, with the routine's own promise. Records cross by value and slices as a pointer and
 // a length; enums and type parameters do not cross, so an answer is a number and a record, with a struct for each voice, and a choice is made of bools.
-// So the pages of the voices are alike, and those of one operation in both widths: each function is an export of its own, and none can stand for two types.
+// So the files of the voices are alike, and those of one operation in both widths: each function is an export of its own, and none can stand for two types.
 // console/bechullpi.h is made from these signatures.
 #![tactic(auto)]
 

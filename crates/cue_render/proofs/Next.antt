@@ -33,7 +33,7 @@ module _ {Voice Sets : Type 0} (p : Player Voice) (renders : Sets → Render Voi
 
   abbrev of_answer : Option (OwnCue Sets) → List (Own Voice) → List (Own Voice)
   of_answer None os = os
-  of_answer (Some c) os = record { start = c.start; render = renders c.own } ∷ os
+  of_answer (Some c) os = record { start = c.start; render = renders c.sets } ∷ os
 
   passed : {s t : CueLines} (line : Result Strike RefusedAt) → Walked s line t → owns p (left s) ≡ of_line line (owns p (left t))
   unfolding owns on_told

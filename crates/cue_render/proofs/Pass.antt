@@ -20,7 +20,7 @@ use Rattle.track.specs.Mix.{silence, mixed}
 use Rattle.track.specs.Track.{Render, Player, started, track}
 use Rattle.track.proofs.Mixed.{silence-length, mixed-length, mixed_none, part_length, mixed_part}
 use Rattle.track.proofs.Cues.{CuesIn, cues_of}
-use Rattle.track.proofs.Laws.{Plays, PlaysAt, Lawful}
+use Rattle.track.specs.Lawful.{Plays, PlaysAt, Lawful}
 use Rattle.track.specs.Own.{Own, on_own, ends, solo_from, solo, owns}
 use Rattle.track.proofs.Alone.{alone}
 use Rattle.cue_render.specs.declared.own_track.OwnCue.{OwnCue}
@@ -130,7 +130,7 @@ module _ {Voice : Type 0} (p : Player Voice) (laws : Lawful p) where
         to_is : to ≡ ends head.length (from_here next lines')
         to_is = to-is ∙ end_is head.length next lines'
 
-        plays : Plays laws.Ready (renders c.own)
+        plays : Plays laws.Ready (renders c.sets)
         unfolding OwnIn
         plays = g.own.1
 
@@ -155,8 +155,8 @@ module _ {Voice : Type 0} (p : Player Voice) (laws : Lawful p) where
             }
 
         pub turn : (scratch : List Float) → List.length scratch ≡ to - from → {v' : Voice} {part out' : List Float}
-            → v' ≡ (renders c.own v true scratch).state
-            → part ≡ mixed (take (to - from) (drop from out)) (map some (renders c.own v true scratch).out)
+            → v' ≡ (renders c.sets v true scratch).state
+            → part ≡ mixed (take (to - from) (drop from out)) (map some (renders c.sets v true scratch).out)
             → out' ≡ take from out ++ (part ++ drop to out) → Passing sheet head out₀ v' next lines' out'
         turn scratch size {v'} {part} {out'} after added written =
             let b = bounds in
@@ -170,6 +170,6 @@ module _ {Voice : Type 0} (p : Player Voice) (laws : Lawful p) where
               ready = rw after (plays.stays v g.ready true scratch);
               to_add =
                   rw (written, added, after)
-                  (own_turn (renders c.own) plays v g.ready head.length from to (from_here next lines') to_is b.0 b.1 g.short out scratch g.room size
+                  (own_turn (renders c.sets) plays v g.ready head.length from to (from_here next lines') to_is b.0 b.1 g.short out scratch g.room size
                   ∙ rw next-is at g.to_add);
             }

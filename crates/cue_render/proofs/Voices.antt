@@ -26,10 +26,10 @@ use Rattle.hihat.proofs.AnyBlockLength as HihatBlocks
 use Rattle.hihat.proofs.Rate.{rate_kept}
 use Rattle.cue_sheet.specs.declared.line.Cue.{Cue}
 use Rattle.cue_sheet.specs.declared.line.Cue.TheVariants.{Bass, Snare, SyntheticSnare, Hihat as HihatCue}
-use Rattle.cue_sheet.proofs.Questions.{KnobsOf}
+use Rattle.cue_sheet.specs.Knobs.{KnobsOf}
 use Rattle.track.specs.Track.{is_own}
 use Rattle.track.specs.Letters.{letter_of}
-use Rattle.track.proofs.Laws.{PlaysAt, Tested}
+use Rattle.track.specs.Lawful.{PlaysAt, Tested}
 use Rattle.cue_render.specs.Voices.{bass_cue, bass, snare_cue, snare, synthetic_snare_cue, synthetic_snare, hihat_cue, hihat}
 
 -- ---- b

@@ -19,7 +19,7 @@ left c = strikes_from c.walk (lines c.rest.now)
 -- a voice's own cues, the next of them and then those after it: where there is no next, none is left. `renders` is the voice's `render` with what a cue sets
 abbrev pub from_next : {Voice Sets : Type 0} → (Sets → Render Voice) → Option (OwnCue Sets) → List (Own Voice) → List (Own Voice)
 from_next renders None os = []
-from_next renders (Some c) os = record { start = c.start; render = renders c.own } ∷ os
+from_next renders (Some c) os = record { start = c.start; render = renders c.sets } ∷ os
 
 -- the end of the run before a cue, which is the sheet's end where there is none
 abbrev pub end_of : {Sets : Type 0} → ℕ → Option (OwnCue Sets) → ℕ

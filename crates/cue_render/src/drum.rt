@@ -7,23 +7,23 @@ use cue_sheet::Cue;
 
 pub(crate) trait Drum: Copy {
     // What a cue of the voice's own sets.
-    type Own: Copy;
+    type Sets: Copy;
 
     ghost player: { Player Self };
 
     // The voice's `render` with that.
-    ghost renders: { Self.Own → Render Self };
+    ghost renders: { Self.Sets → Render Self };
 
-    // What `init` makes.
+    // What `init` makes. Here and in `play` the voice of the call is taken and not its number: no call is refused (`NoneRefused` of `render`).
     fn begin(sample_rate_hz: f32) -> Self
         ensures { result ≡ (player.init sample_rate_hz).state };
 
     // What a cue sets, if it is the voice's own.
-    fn own(cue: Cue) -> Option<Self::Own>
-        ensures { MatchOption result (player.render cue ≡ none) (λ own. player.render cue ≡ some (renders own)) };
+    fn own(cue: Cue) -> Option<Self::Sets>
+        ensures { MatchOption result (player.render cue ≡ none) (λ sets. player.render cue ≡ some (renders sets)) };
 
     // A cue of its own triggers the voice, which renders a block.
-    fn strike(self, own: Self::Own, out: &mut [f32]) -> Self
-        ensures voice { result ≡ (renders own self true out.old).state }
-        ensures out { out.new ≡ (renders own self true out.old).out };
+    fn play(self, sets: Self::Sets, out: &mut [f32]) -> Self
+        ensures voice { result ≡ (renders sets self true out.old).state }
+        ensures out { out.new ≡ (renders sets self true out.old).out };
 }

@@ -9,7 +9,7 @@ use hihat::{Hihat, Knobs, VcaType};
 use refusal::number_and_voice;
 
 impl Drum for Hihat {
-    type Own = Knobs;
+    type Sets = Knobs;
 
     ghost player = { hihat };
 
@@ -42,7 +42,7 @@ impl Drum for Hihat {
         }
     }
 
-    fn strike(self, knobs: Knobs, out: &mut [f32]) -> Self {
+    fn play(self, knobs: Knobs, out: &mut [f32]) -> Self {
         number_and_voice(self.render(true, VcaType::Swing, knobs, out)).1
     }
 }

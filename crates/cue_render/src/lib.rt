@@ -34,6 +34,7 @@ pub fn render(sheet: &[u8], out: &mut [f32]) -> Result<Accepted, RefusedAt>
     let accepted = cue_sheet::judge(sheet)?;
     let length = accepted.head.length as usize;
     if out.len() < length {
+        // No line of a sheet is line 0, which the scope has with 11.
         return Err(RefusedAt {
             refusal: SheetRefusal::BufferLength,
             line: 0,

@@ -4,7 +4,7 @@ ghost use Rattle.cue_sheet.specs.Sheet.{strikes};
 ghost use Rattle.track.specs.Mix.{mixed};
 ghost use Rattle.track.specs.Track.{track};
 ghost use Rattle.track.specs.Own.{owns};
-ghost use Rattle.track.proofs.Laws.{Tested};
+ghost use Rattle.track.specs.Lawful.{Tested};
 ghost use Rattle.cue_render.specs.Run.{Playable, end_of, left, from_next};
 
 use crate::drum::Drum;
@@ -13,9 +13,9 @@ use cue_sheet::{CueLines, Head, Strike};
 
 // A cue of the voice's own: where it starts, and what it sets.
 #[derive(Clone, Copy)]
-struct OwnCue<Own> {
+struct OwnCue<Sets> {
     start: u32,
-    own: Own,
+    sets: Sets,
 }
 
 pub(crate) fn add_track<D: Drum>(sheet: &[u8], head: Head, out: &mut [f32], scratch: &mut [f32])
@@ -33,26 +33,26 @@ pub(crate) fn add_track<D: Drum>(sheet: &[u8], head: Head, out: &mut [f32], scra
         // What the two slices below need (`fits` of proofs/Pass.antt).
         prove!(from <= to && to <= out.len() && to - from <= scratch.len());
         let block = &mut scratch[..to - from];
-        voice = voice.strike(cue.own, block);
+        voice = voice.play(cue.sets, block);
         mix::add_to(&mut out[from..to], block);
     }
 }
 
 // The voice's next cue among the lines that are left, and the lines after it.
-fn next_of<D: Drum>(lines: &mut CueLines) -> Option<OwnCue<D::Own>>
+fn next_of<D: Drum>(lines: &mut CueLines) -> Option<OwnCue<D::Sets>>
     ensures { owns D.player (left lines.old) ≡ from_next D.renders result (owns D.player (left lines.new)) }
 {
     lines.find_map(|line| {
         let Strike { start, cue } = line.ok()?;
         Some(OwnCue {
             start,
-            own: D::own(cue)?,
+            sets: D::own(cue)?,
         })
     })
 }
 
 // Where the run before a cue ends.
-fn end_of<Own: Copy>(next: Option<OwnCue<Own>>, length: u32) -> u32
+fn end_of<Sets: Copy>(next: Option<OwnCue<Sets>>, length: u32) -> u32
     ensures { result ≡ end_of length next }
 {
     next.map_or(length, |cue| cue.start)

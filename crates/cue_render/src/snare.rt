@@ -9,11 +9,11 @@ use refusal::number_and_voice;
 
 impl Drum for AnalogSnareDrum {
     // accent and knobs
-    type Own = (f32, Knobs);
+    type Sets = (f32, Knobs);
 
     ghost player = { snare };
 
-    ghost renders = { λ own v trigger. spec.render v trigger own.0 own.1 };
+    ghost renders = { λ sets v trigger. spec.render v trigger sets.0 sets.1 };
 
     fn begin(sample_rate_hz: f32) -> Self {
         number_and_voice(AnalogSnareDrum::ZERO.init(sample_rate_hz)).1
@@ -41,7 +41,7 @@ impl Drum for AnalogSnareDrum {
         }
     }
 
-    fn strike(self, (accent, knobs): (f32, Knobs), out: &mut [f32]) -> Self {
+    fn play(self, (accent, knobs): (f32, Knobs), out: &mut [f32]) -> Self {
         number_and_voice(self.render(true, accent, knobs, out)).1
     }
 }

@@ -8,7 +8,7 @@ use refusal::number_and_voice;
 use synthetic_snare_drum::{Knobs, SyntheticSnareDrum};
 
 impl Drum for SyntheticSnareDrum {
-    type Own = Knobs;
+    type Sets = Knobs;
 
     ghost player = { synthetic_snare };
 
@@ -39,7 +39,7 @@ impl Drum for SyntheticSnareDrum {
         }
     }
 
-    fn strike(self, knobs: Knobs, out: &mut [f32]) -> Self {
+    fn play(self, knobs: Knobs, out: &mut [f32]) -> Self {
         number_and_voice(self.render(true, knobs, out)).1
     }
 }

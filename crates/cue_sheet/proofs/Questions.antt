@@ -1,19 +1,18 @@
 -- What a line that stands for a cue shows: that every question is passed.
 use Rattle.std.proofs.Common.{◌≡◌, ℕ, ◌<◌, ◌≤◌, Bool, true, false, ltb, leb, List, Option, Some, None, refl, arith, ltb-true, leb-true}
 use lib.Ieee.{Float}
-use Rattle.refusal.specs.Refusal.{is_frequency, is_unit, is_bass_decay}
+use Rattle.refusal.specs.Refusal.{is_frequency, is_unit}
 use Rattle.refusal.proofs.ByNumber as ByNumber
 use Rattle.cue_sheet.specs.Answer.{number, Told, says, ◌>>=◌, ◌>>◌, ask, ask_for}
 use Rattle.cue_sheet.specs.Fields.{read_fields}
 use Rattle.cue_sheet.specs.CueLine.{is_decay, cue, cue_of, read_cue}
+use Rattle.cue_sheet.specs.Knobs.{KnobsIn, KnobsOf}
 use Rattle.cue_sheet.specs.declared.line.Strike.{Strike}
 use Rattle.cue_sheet.specs.declared.line.Walk.{Walk}
 use Rattle.cue_sheet.specs.declared.answer.SheetRefusal.{SheetRefusal}
 use Rattle.cue_sheet.specs.declared.answer.SheetRefusal.TheVariants.{Knobs, FirstLine, CueLine, CueStart, CueCount, BufferLength}
 use Rattle.cue_sheet.specs.declared.voice.Voice.{Voice}
 use Rattle.cue_sheet.specs.declared.line.Fields.{Fields}
-use Rattle.cue_sheet.specs.declared.line.Cue.{Cue}
-use Rattle.cue_sheet.specs.declared.line.Cue.TheVariants.{Bass, Snare, SyntheticSnare, Hihat}
 
 -- a refusal's number is not 0; the highest is 11
 pub numbered : (r : SheetRefusal) → (0 < number r) × (number r ≤ 11)
@@ -35,20 +34,6 @@ asked_for None n h = let never : ◌≡◌ {A = ℕ} 0 1 = cc in absurd (omega a
 read : {A B : Type 0} (o : Option A) (n : ℕ) (next : A → Told B) {x : B} → (ask_for o n >>= next) ≡ says x → (y : A) × (o ≡ Some y) × (next y ≡ says x)
 read (Some y) n next h = (y, refl, h)
 read None n next h = let never : ◌≡◌ {A = ℕ} 0 1 = cc in absurd (omega arith)
-
--- ---- knobs that have passed their questions; `decays` is that of decay
-pub record KnobsIn (decays : Float → Bool) (accent f0 a decay c : Float) : Type 0 where
-  pub frequency : is_frequency f0 ≡ true
-  pub accent_in : is_unit accent ≡ true
-  pub a_in : is_unit a ≡ true
-  pub decay_in : decays decay ≡ true
-  pub c_in : is_unit c ≡ true
-
-abbrev pub KnobsOf : Cue → Type 0
-KnobsOf (Bass accent f0 tone decay attack_fm_amount) = KnobsIn is_bass_decay accent f0 tone decay attack_fm_amount
-KnobsOf (Snare accent f0 tone decay snappy) = KnobsIn is_unit accent f0 tone decay snappy
-KnobsOf (SyntheticSnare accent f0 fm_amount decay snappy) = KnobsIn is_unit accent f0 fm_amount decay snappy
-KnobsOf (Hihat accent f0 tone decay noisiness) = KnobsIn is_unit accent f0 tone decay noisiness
 
 knobs_of : (voice : Voice) (accent f0 a decay c : Float) → KnobsIn (is_decay voice) accent f0 a decay c → KnobsOf (cue voice accent f0 a decay c)
 unfolding is_decay

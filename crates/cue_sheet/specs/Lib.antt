@@ -2,5 +2,6 @@
 pub mod Answer
 pub mod Fields
 pub mod CueLine
+pub mod Knobs
 pub mod Sheet
 pub mod Walks

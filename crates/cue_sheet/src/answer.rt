@@ -6,7 +6,7 @@ ghost use Rattle.cue_sheet.specs.declared.answer.SheetRefusal.TheVariants.{Knobs
 use refusal::Refusal;
 
 // What the voices ask of a cue's knobs keeps its number, 3 to 5; the sheet's own questions have 7 to 11, in this order.
-#[derive(Clone, Copy)]
+#[derive(Clone, Copy, Debug, PartialEq, Eq)]
 pub enum SheetRefusal {
     Knobs(Refusal),
     FirstLine,
@@ -17,7 +17,7 @@ pub enum SheetRefusal {
 }
 
 impl From<Refusal> for SheetRefusal {
-    ghost from_gives = { λ voices sheets. sheets ≡ Knobs voices };
+    ghost from_gives = { λ knobs refusal. refusal ≡ Knobs knobs };
 
     fn from(knobs: Refusal) -> Self {
         SheetRefusal::Knobs(knobs)

@@ -105,42 +105,34 @@ fn read_fields(line: &[u8]) -> Option<Fields>
 fn cue_of(fields: Fields) -> Cue
     ensures { result ≡ spec.cue_of fields }
 {
-    let Fields {
-        accent,
-        f0,
-        a,
-        decay,
-        c,
-        ..
-    } = fields;
     match fields.voice {
         Voice::Bass => Cue::Bass {
-            accent,
-            f0,
-            tone: a,
-            decay,
-            attack_fm_amount: c,
+            accent: fields.accent,
+            f0: fields.f0,
+            tone: fields.a,
+            decay: fields.decay,
+            attack_fm_amount: fields.c,
         },
         Voice::Snare => Cue::Snare {
-            accent,
-            f0,
-            tone: a,
-            decay,
-            snappy: c,
+            accent: fields.accent,
+            f0: fields.f0,
+            tone: fields.a,
+            decay: fields.decay,
+            snappy: fields.c,
         },
         Voice::SyntheticSnare => Cue::SyntheticSnare {
-            accent,
-            f0,
-            fm_amount: a,
-            decay,
-            snappy: c,
+            accent: fields.accent,
+            f0: fields.f0,
+            fm_amount: fields.a,
+            decay: fields.decay,
+            snappy: fields.c,
         },
         Voice::Hihat => Cue::Hihat {
-            accent,
-            f0,
-            tone: a,
-            decay,
-            noisiness: c,
+            accent: fields.accent,
+            f0: fields.f0,
+            tone: fields.a,
+            decay: fields.decay,
+            noisiness: fields.c,
         },
     }
 }
@@ -155,7 +147,7 @@ pub struct Walk {
 }
 
 impl Walk {
-    // What the next line says, its line end included: its strike, or the first question that it does not pass. `CueLines` takes the walk on.
+    // What the next line, with its line end, says: a strike, or the first question that it does not pass. `CueLines` takes the walk on.
     #[tactic(auto, unfolding(crate::specs::CueLine::read_cue))]
     pub fn read_cue(self, line: &[u8]) -> Result<Strike, SheetRefusal>
         ensures { spec.told result ≡ spec.read_cue self line.now }

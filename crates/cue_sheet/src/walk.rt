@@ -11,7 +11,7 @@ use crate::line::{Strike, Walk};
 use text::read::split_line;
 
 // A refusal, and the line that is refused, counted from 1.
-#[derive(Clone, Copy)]
+#[derive(Clone, Copy, Debug, PartialEq, Eq)]
 pub struct RefusedAt {
     pub refusal: SheetRefusal,
     pub line: u32,
@@ -56,6 +56,7 @@ impl<'a> Iterator for CueLines<'a> {
         let (line, rest) = split_line(self.rest);
         let at = self.walk;
         self.rest = rest;
+        // Nothing bounds the lines of a walk that goes on past refused ones: the count may come round.
         self.walk.line = at.line.wrapping_add(1);
         match at.read_cue(line) {
             Ok(strike) => {

@@ -22,9 +22,9 @@ pub enum FrequencyApproximation {
     Dirty,
 }
 
-// Powers of pi, each an f32 product in the Rust's order: none is the f32 nearest to its power.
 const M_PI_F: f32 = 3.14159265358979323846264338327950288;
 
+// Powers of pi, each an f32 product in the Rust's order: none is the f32 nearest to its power.
 const M_PI_POW_2: f32 = M_PI_F * M_PI_F;
 
 const M_PI_POW_3: f32 = M_PI_POW_2 * M_PI_F;

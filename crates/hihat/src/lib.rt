@@ -15,7 +15,9 @@ ghost use Rattle.hihat.specs.OnePass.{tuned, step};
 use block::Turn;
 use filter::{FrequencyApproximation, Svf};
 use parameter_interpolator::ParameterInterpolator;
-use refusal::{BlockLength, Refusal, Refused, ask, ask_strike, is_frequency, is_sample_rate, is_unit};
+use refusal::{
+    BlockLength, Refusal, Refused, ask, ask_strike, is_frequency, is_sample_rate, is_unit,
+};
 pub use square_noise::SquareNoise;
 
 #[derive(Clone, Copy, Debug, PartialEq, Eq)]
@@ -122,10 +124,11 @@ impl Hihat {
             .asked(self.sample_rate, out.len())
             .map_err(|refusal| refusal.of(self))?;
         let settings = knobs.settings(self, vca_type, length);
-        let mut voice = self;
-        if trigger {
-            voice = self.triggered(knobs.accent, knobs.decay);
-        }
+        let voice = if trigger {
+            self.triggered(knobs.accent, knobs.decay)
+        } else {
+            self
+        };
         Ok(voice.passes(settings, out))
     }
 
@@ -179,7 +182,7 @@ impl Hihat {
         }
     }
 
-    // The passes over the block, in one.
+    // The passes over the block, in one. A function by itself, since as a part of `render` it takes more instructions a sample (docs/DECISIONS.md).
     #[inline(never)]
     fn passes(self, settings: Settings, out: &mut [f32]) -> Self
         ensures voice { result ≡ (spec.passes settings (record { state = self; out = out.old })).state }
@@ -205,11 +208,10 @@ impl Hihat {
         ensures { result ≡ spec.metallic settings self }
     {
         let noise = self.square_noise.turn(settings.increment);
-        let square_noise = noise.next;
         Turn {
             sample: noise.sample,
             next: Hihat {
-                square_noise,
+                square_noise: noise.next,
                 ..self
             },
         }
@@ -217,7 +219,7 @@ impl Hihat {
 }
 
 impl Knobs {
-    // The questions of `render`.
+    // The questions of `render`, written out for each voice: its own knobs, in the scope's order.
     #[tactic(auto, unfolding(crate::specs::Hihat::render_refusal))]
     fn asked(self, sample_rate: f32, samples: usize) -> Result<BlockLength, Refusal>
         ensures number { answer_number result ≡ spec.render_refusal sample_rate self samples }

@@ -15,11 +15,10 @@ impl Hihat {
         let o = self
             .noise_coloration_svf
             .process(sample, FilterMode::BandPass);
-        let noise_coloration_svf = o.filter;
         Turn {
             sample: o.out,
             next: Hihat {
-                noise_coloration_svf,
+                noise_coloration_svf: o.filter,
                 ..self
             },
         }
@@ -83,10 +82,12 @@ impl Hihat {
         ensures { result ≡ spec.high_passed self sample }
     {
         let o = self.hpf.process(sample, FilterMode::HighPass);
-        let hpf = o.filter;
         Turn {
             sample: o.out,
-            next: Hihat { hpf, ..self },
+            next: Hihat {
+                hpf: o.filter,
+                ..self
+            },
         }
     }
 }

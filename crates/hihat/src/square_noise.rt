@@ -89,8 +89,8 @@ fn count_high(phase: [u32; 6]) -> u32
     ensures upper_bound { result < 7 }
 {
     let mut noise = 0;
-    for phase in &phase {
-        noise += *phase >> 31;
+    for p in &phase {
+        noise += *p >> 31;
     }
     noise
 }

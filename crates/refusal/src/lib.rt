@@ -39,6 +39,7 @@ pub struct Refused<V> {
     pub refusal: Refusal,
 }
 
+// Each voice has `init`, `render`, `strike` and `run` of its own, with the Rust's parameters: its questions, a `?` that hands the voice back, and one line.
 impl Refusal {
     pub fn of<V>(self, voice: V) -> Refused<V>
         ensures { result ≡ record { refusal = self; voice = voice } }
@@ -88,7 +89,7 @@ pub fn is_block_length(samples: usize) -> bool
 }
 
 // The length of a block that passes its question.
-#[derive(Clone, Copy)]
+#[derive(Clone, Copy, Debug)]
 pub struct BlockLength(u32);
 
 impl Model for BlockLength {

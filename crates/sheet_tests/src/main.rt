@@ -4,6 +4,7 @@
 use std::io::Write;
 use std::{env, fs, io};
 
+// As `cues` does with its standard input; a function of both would need a contract over a reader and a writer, for these few lines.
 fn print_sheet(rt: &HostRuntime, name: &str) -> io::Result<()> {
     let mut out = rt.stdout();
     out.write_all(name.as_bytes())?;

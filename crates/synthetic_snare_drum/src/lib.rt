@@ -14,7 +14,9 @@ ghost use Rattle.synthetic_snare_drum.specs.Parts.{enveloped};
 use block::Turn;
 use filter::{FilterMode, FrequencyApproximation, OnePole, Svf};
 use parameter_interpolator::ParameterInterpolator;
-use refusal::{BlockLength, Refusal, Refused, ask, ask_strike, is_frequency, is_sample_rate, is_unit};
+use refusal::{
+    BlockLength, Refusal, Refused, ask, ask_strike, is_frequency, is_sample_rate, is_unit,
+};
 
 #[repr(C)]
 #[derive(Clone, Copy)]
@@ -86,6 +88,7 @@ impl SyntheticSnareDrum {
         Ok(self.initialized(sample_rate_hz))
     }
 
+    // The noise state is the one that the Rust's begins with, 0x21.
     fn initialized(self, sample_rate_hz: f32) -> Self
         ensures { result ≡ spec.initialized self sample_rate_hz }
     {
@@ -111,10 +114,12 @@ impl SyntheticSnareDrum {
             .asked(self.sample_rate_hz, out.len())
             .map_err(|refusal| refusal.of(self))?;
         let settings = knobs.settings(self, length);
-        let mut voice = self.tuned(settings);
-        if trigger {
-            voice = voice.triggered(knobs.accent, knobs.decay);
-        }
+        let tuned = self.tuned(settings);
+        let voice = if trigger {
+            tuned.triggered(knobs.accent, knobs.decay)
+        } else {
+            tuned
+        };
         Ok(voice.fill(settings, out))
     }
 
@@ -174,7 +179,7 @@ impl SyntheticSnareDrum {
         }
     }
 
-    // The loop over the block.
+    // The loop over the block. A function by itself, since as a part of `render` it takes more instructions a sample (docs/DECISIONS.md).
     #[inline(never)]
     fn fill(self, settings: Settings, out: &mut [f32]) -> Self
         ensures voice { let n = length out.old in result ≡ after (spec.step settings n) n self }
@@ -188,6 +193,7 @@ impl SyntheticSnareDrum {
         ensures { (size : ℕ) → result ≡ spec.step settings size self }
     {
         let v = self.enveloped(settings);
+        // Two oscillators, one after the other as in the Rust: the second runs at 1.47 times the frequency of the first.
         let phase_0 = v.phase[0];
         let phase_1 = v.phase[1];
 
@@ -207,16 +213,13 @@ impl SyntheticSnareDrum {
         let low = v.snare_lp.process(draw.value, FilterMode::LowPass);
         let high = v.snare_hp.process(low.out, FilterMode::HighPass);
         let snare = (high.out + 0.1) * (v.snare_amplitude + v.fm) * settings.snare_level;
-        let drum_lp = drum.filter;
-        let snare_hp = high.filter;
-        let snare_lp = low.filter;
         Turn {
             sample: snare + drum.out,
             next: SyntheticSnareDrum {
                 phase: [phase_0, phase_1],
-                drum_lp,
-                snare_hp,
-                snare_lp,
+                drum_lp: drum.filter,
+                snare_hp: high.filter,
+                snare_lp: low.filter,
                 noise: draw.word,
                 ..v
             },
@@ -260,7 +263,7 @@ impl SyntheticSnareDrum {
 }
 
 impl Knobs {
-    // The questions of `render`.
+    // The questions of `render`, written out for each voice: its own knobs, in the scope's order.
     #[tactic(auto, unfolding(crate::specs::SyntheticSnareDrum::render_refusal))]
     fn asked(self, sample_rate_hz: f32, samples: usize) -> Result<BlockLength, Refusal>
         ensures number { answer_number result ≡ spec.render_refusal sample_rate_hz self samples }

@@ -17,7 +17,7 @@ use Rattle.cue_sheet.proofs.FirstLines.{HeadIn}
 use Rattle.track.specs.Mix.{silence}
 use Rattle.track.specs.Track.{Render, Player, until, latest, called, left, segments_from, Accepted, NoneRefused}
 use Rattle.track.proofs.Mixed.{silence-length}
-use Rattle.track.proofs.Laws.{PlaysAt, Lawful}
+use Rattle.track.specs.Lawful.{PlaysAt, Lawful}
 use Rattle.track.proofs.Cues.{CuesIn, until_in}
 
 -- ---- a sheet's rate is a sample rate

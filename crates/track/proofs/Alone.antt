@@ -13,7 +13,7 @@ use Rattle.track.specs.Mix.{silence}
 use Rattle.track.specs.Track.{Render, Player, until, is_own, latest, called, left, segments_from, segments, given, track_of}
 use Rattle.track.specs.Own.{Own, on_own, ends, solo_from, solo, owns}
 use Rattle.track.proofs.Mixed.{silence-length, silence-add}
-use Rattle.track.proofs.Laws.{Plays, PlaysAt, Lawful}
+use Rattle.track.specs.Lawful.{Plays, PlaysAt, Lawful}
 use Rattle.track.proofs.Cues.{CuesIn, until_in}
 
 module _ {Voice : Type 0} (p : Player Voice) where

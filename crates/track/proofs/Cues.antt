@@ -9,7 +9,8 @@ use Rattle.cue_sheet.specs.CueLine.{read_cue}
 use Rattle.cue_sheet.specs.Sheet.{on_told, next, strikes_from, strikes}
 use Rattle.cue_sheet.specs.declared.Head.{Head}
 use Rattle.cue_sheet.specs.declared.line.Walk.{Walk}
-use Rattle.cue_sheet.proofs.Questions.{KnobsOf, cue-passed}
+use Rattle.cue_sheet.specs.Knobs.{KnobsOf}
+use Rattle.cue_sheet.proofs.Questions.{cue-passed}
 use Rattle.cue_sheet.proofs.Walks.{next_head, least_kept, least_raised}
 use Rattle.track.specs.Track.{until}
 

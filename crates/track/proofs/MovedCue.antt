@@ -14,7 +14,7 @@ use Rattle.cue_sheet.specs.Sheet.{accepted, head_of, read_first_line, on_told, n
 use Rattle.cue_sheet.specs.declared.Head.{Head}
 use Rattle.track.specs.Track.{Player, track}
 use Rattle.track.specs.OwnLines.{lines_of, cue_lines}
-use Rattle.track.proofs.Laws.{Lawful}
+use Rattle.track.specs.Lawful.{Lawful}
 use Rattle.track.proofs.OwnLines.{own_lines_only}
 
 pub head : Head

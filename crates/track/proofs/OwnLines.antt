@@ -25,7 +25,7 @@ use Rattle.cue_sheet.proofs.FirstLines.{accepted_head, accepted-lines}
 use Rattle.track.specs.Track.{Render, Player, is_own, started, track}
 use Rattle.track.specs.Letters.{letter_of}
 use Rattle.track.specs.OwnLines.{lines_of, cue_lines, OwnLinesOnly}
-use Rattle.track.proofs.Laws.{Lawful}
+use Rattle.track.specs.Lawful.{Lawful}
 use Rattle.track.proofs.Cues.{cues_of}
 use Rattle.track.proofs.Accepts.{sheet-rate}
 use Rattle.track.specs.Own.{Own, on_own, owns, solo}

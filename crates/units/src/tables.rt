@@ -1,4 +1,4 @@
-// The two tables of the Rust, entry by entry, as constant data.
+// The two tables of the Rust, entry by entry, as constant data, and at the end the product of two entries.
 ghost use Rattle.std.specs.Prelude.{◌≡◌};
 ghost use Rattle.units.specs.Units as spec;
 

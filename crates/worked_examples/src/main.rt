@@ -10,7 +10,7 @@ fn print(rt: &HostRuntime, example: &str, number: u32) -> io::Result<()> {
     println!(rt; "{example}: {number}")
 }
 
-fn number<V>(call: Result<V, Refused<V>>) -> u32 {
+fn number<V: Drop>(call: Result<V, Refused<V>>) -> u32 {
     number_and_voice(call).0
 }
 
@@ -71,7 +71,7 @@ fn main(rt: HostRuntime) -> io::Result<()> {
     print(
         &rt,
         "a hi-hat of rate 0.0, f0 not-a-number",
-        number(struck_unstarted(0.0 / 0.0, &mut block)),
+        number(struck_unstarted(f32::NAN, &mut block)),
     )?;
 
     let mut one = [0.0f32; 1];

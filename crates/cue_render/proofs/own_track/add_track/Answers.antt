@@ -33,9 +33,9 @@ loop-next-preserved g c =
     let inv = c.loop-next.invariant in
     let f = fits _ (lawful c.requires.lawful) _ _ (rw c.in-Some.is at (inv.0 c.requires.lawful)) _ c.next_of-next-in-Some.new.lines cue c.end_of-to.ensures _ inv.1 in (
       λ laws.
-          turn _ (lawful laws) _ _ (rw c.in-Some.is at (inv.0 laws)) _ c.next_of-next-in-Some.new.lines cue c.end_of-to.ensures _ f.block c.strike-voice.ensures.voice (rw c.strike-voice.ensures.out at c.add_to.ensures)
+          turn _ (lawful laws) _ _ (rw c.in-Some.is at (inv.0 laws)) _ c.next_of-next-in-Some.new.lines cue c.end_of-to.ensures _ f.block c.play-voice.ensures.voice (rw c.play-voice.ensures.out at c.add_to.ensures)
           (rw (Post-is _ _ _ f.rising)),
-      simp (length-append, length-drop) (omega (arith, c.strike-voice.auto.out, f.block, f.room, inv.1)),
+      simp (length-append, length-drop) (omega (arith, c.play-voice.auto.out, f.block, f.room, inv.1)),
     )
 
 pub returns : goal.returns

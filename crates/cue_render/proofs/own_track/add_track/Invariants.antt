@@ -1,6 +1,7 @@
 use Rattle.std.proofs.Common.{◌≡◌, length}
 use Rattle.track.specs.Own.{owns}
-use Rattle.track.proofs.Laws.{Tested, lawful}
+use Rattle.track.specs.Lawful.{Tested}
+use Rattle.track.proofs.Laws.{lawful}
 use Rattle.cue_render.specs.Run.{left, from_next}
 use Rattle.cue_render.proofs.Pass.{Passing}
 use Rattle.cue_render.proofs.own_track.add_track.Given as goal

@@ -16,6 +16,7 @@ struct Extracted {
 // The square root of n by Heron's rule: for any guess above 0 the mean of guess and n / guess is not
 // below the root without its fraction. How near the first guess is matters for speed alone: where n
 // has 47 or 48 digits it is off by less than 3 in 100, and two steps leave at most 2 to take away.
+// (The library's `isqrt` halves an interval of 2^32 numbers, in 32 steps.)
 fn extract_root(n: u64) -> Extracted
     requires { n < 2 ^ 48 }
     ensures square { result.root * result.root + result.rest ≡ n }

@@ -1,5 +1,5 @@
 -- Reading a number digit by digit, up to a limit; how large it is, how many digits it can have, and that no comma is among them.
-use Rattle.std.proofs.Common.{◌≡◌, ◌≢◌, ◌⊎◌, inl, inr, ℕ, suc, ◌+◌, ◌*◌, ◌^◌, ◌≤◌, ◌<◌, Bool, true, false, cond, eqb, ltb, leb, List, [], ◌∷◌, get_or, length, drop, Option, Some, None, option_and_then, refl, sym, ap, ◌∙◌, add-one, arith, drop-cons, drop_of_length-le, lt-ltb, le-ltb, le-leb, eq-eqb, ne_eqb, ltb-true, leb-true, eqb-true}
+use Rattle.std.proofs.Common.{◌≡◌, ℕ, suc, ◌+◌, ◌*◌, ◌^◌, ◌≤◌, ◌<◌, Bool, true, false, not, cond, eqb, ltb, leb, List, [], ◌∷◌, get_or, length, drop, Option, Some, None, option_and_then, refl, sym, ap, ◌∙◌, add-one, arith, drop-cons, drop_of_length-le, lt-ltb, le-ltb, le-leb, ne_eqb, ltb-true, leb-true, eqb-true}
 use native.Mathlib.Nat.{le-mul_of_pos_right, mul-le-mul, mul-le-mul_right, mul-one, mul_assoc, suc-mul, pow-zero, pow-succ', pow-le-pow_right, one-le-pow}
 use native.Mathlib.Decide.{dec_le}
 use borrow.Author.Tests.{lt-leb, eqb-false, not-true}
@@ -8,23 +8,17 @@ use Rattle.std.proofs.lemmas.List.Quantifiers.{position-Some}
 use Rattle.text.specs.Read.{fields, digits, digit, numeral, up_to, well_formed, decimal, pattern}
 
 -- ---- a decimal's form, by its length and its first byte
-pub no_form : (text : List ℕ) → length text < 1 → well_formed text ≡ false
+pub short_form : (text : List ℕ) → length text < 2 → well_formed text ≡ ltb 0 (length text)
 unfolding well_formed
-no_form [] h = refl
-no_form (d ∷ ds) h = absurd (omega arith)
+short_form [] h = refl
+short_form (d ∷ []) h = refl
+short_form (d ∷ e ∷ ds) h = absurd (omega arith)
 
-pub zeros_form : (text : List ℕ) → 1 < length text → get_or text 0 0 ≡ 48 → well_formed text ≡ false
+pub long_form : (text : List ℕ) → 2 ≤ length text → well_formed text ≡ not (eqb (get_or text 0 0) 48)
 unfolding well_formed
-zeros_form [] h e = refl
-zeros_form (d ∷ []) h e = absurd (omega arith)
-zeros_form (d ∷ c ∷ ds) h e = rw (eq-eqb d 48 e)
-
-pub some_form : (text : List ℕ) (d : ℕ) → 0 < length text → get_or text 0 0 ≡ d → ((d ≡ 48) × (length text ≤ 1)) ⊎ (d ≢ 48) → well_formed text ≡ true
-unfolding well_formed
-some_form [] d h first e = absurd (omega arith)
-some_form (c ∷ []) d h first e = refl
-some_form (c ∷ b ∷ ds) d h first (inl l) = absurd (omega (arith, l.1))
-some_form (c ∷ b ∷ ds) d h first (inr e) = rw (ne_eqb c 48 (λ zero. e (sym first ∙ zero)))
+long_form [] h = absurd (omega arith)
+long_form (d ∷ []) h = absurd (omega arith)
+long_form (d ∷ e ∷ ds) h = refl
 
 -- ---- a number that is read
 no_value : {C : Type 0} {n : ℕ} → None ≡ Some n → C

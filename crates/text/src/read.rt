@@ -41,7 +41,7 @@ pub fn split_field(line: &[u8]) -> Option<(&[u8], &[u8])>
     Some((&line[..comma], &line[comma + 1..]))
 }
 
-// What a digit stands for.
+// What a digit stands for. (The library's `to_digit` takes capitals too.)
 #[tactic(auto, unfolding(crate::specs::Read::digit))]
 fn digit(b: u8) -> Option<u64>
     ensures { result ≡ Read.digit b }
@@ -74,13 +74,14 @@ fn numeral(text: &[u8], base: u64, limit: u32) -> Option<u32>
 }
 
 // A decimal number from 0 to `limit`, with no zeros in front.
+#[tactic(auto, using(crate::proofs::Numeral::short_form, crate::proofs::Numeral::long_form), unfolding(crate::specs::Read::decimal))]
 pub fn decimal(text: &[u8], limit: u32) -> Option<u32>
     ensures { result ≡ Read.decimal limit text.now }
 {
-    if *text.first()? == b'0' && text.len() > 1 {
-        return None;
+    match text {
+        [] | [b'0', _, ..] => None,
+        _ => numeral(text, 10, limit),
     }
-    numeral(text, 10, limit)
 }
 
 // A bit pattern: eight hexadecimal digits in lower case.

@@ -1,7 +1,7 @@
 // drums/analog_bass_drum.rs: 808 bass drum model, without its sustain mode.
 #![tactic(auto)]
 
-ghost use Rattle.std.specs.Prelude.{◌≡◌, true, length};
+ghost use Rattle.std.specs.Prelude.{◌≡◌, ◌↔◌, IsTrue, length};
 ghost use Rattle.refusal.specs.Refusal.{answer_number, call_number, call_voice};
 ghost use Rattle.block.specs.Block.{samples, after};
 ghost use Rattle.analog_bass_drum.specs.AnalogBassDrum as spec;
@@ -251,7 +251,7 @@ impl AnalogBassDrum {
     // Whether the turn leaves the pulses and their low-passes as they are.
     // (A derived `==` would have -0.0 equal to 0.0, and a NaN unequal to itself.)
     fn is_at_rest(self, e: Excitation) -> bool
-        ensures { (result ≡ true → AtRest self e) × (AtRest self e → result ≡ true) }
+        ensures { IsTrue result ↔ AtRest self e }
     {
         e.pulse_remaining_samples == self.pulse_remaining_samples
             && e.fm_pulse_remaining_samples == self.fm_pulse_remaining_samples

@@ -1,5 +1,5 @@
 // Sameness, the sign cleared, and a value held between bounds.
-ghost use Rattle.std.specs.Prelude.{◌≡◌, true};
+ghost use Rattle.std.specs.Prelude.{◌≡◌, ◌↔◌, IsTrue};
 ghost use Rattle.ieee754.specs.Operations as Operations;
 
 use crate::format::Format;
@@ -7,7 +7,7 @@ use crate::pattern::to_bits;
 
 // Whether x and y are one value: -0.0 is not 0.0 here, and a not-a-number is a not-a-number.
 pub fn is_same(x: f32, y: f32) -> bool
-    ensures { (result ≡ true → x ≡ y) × (x ≡ y → result ≡ true) }
+    ensures { IsTrue result ↔ (x ≡ y) }
 {
     to_bits(x) == to_bits(y)
 }

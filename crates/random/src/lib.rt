@@ -17,7 +17,8 @@ pub struct Draw {
 // The only multiplication here, for a processor without a wide multiply. Its precondition is the proof, at every call, that a multiplication takes
 // two numbers below 65,536.
 fn mul16(a: u32, b: u32) -> u32
-    requires { (a < 65536) × (b < 65536) }
+    requires first { a < 65536 }
+    requires second { b < 65536 }
     ensures { result ≡ a * b }
 {
     a * b

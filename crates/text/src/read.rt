@@ -56,7 +56,8 @@ fn digit(b: u8) -> Option<u64>
 // The number that digits in a base stand for, if it is at most `limit`. A number that passes the limit on the way stays above it.
 // (The library's `parse` and `from_str_radix` take a sign, zeros in front and capitals, which a sheet may not have.)
 fn numeral(text: &[u8], base: u64, limit: u32) -> Option<u32>
-    requires { (0 < base) × (base ≤ 16) }
+    requires some { 0 < base }
+    requires few { base ≤ 16 }
     ensures { result ≡ Read.up_to limit (Read.numeral base 0 text.now) }
 {
     let mut n: u64 = 0;

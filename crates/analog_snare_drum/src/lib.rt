@@ -15,6 +15,7 @@ use filter::{FilterMode, FrequencyApproximation, Svf};
 use refusal::{Refusal, Refused, ask, is_block_length, is_frequency, is_sample_rate, is_unit};
 use trigger_pulse::TriggerPulse;
 
+// The modes' frequencies, gains and filters stand in arrays by place, as in the Rust; the filters also in the record that C knows.
 const MODE_FREQUENCIES: [f32; 5] = [1.00, 2.00, 3.18, 4.16, 5.62];
 
 #[repr(C)]
@@ -62,14 +63,14 @@ struct Excitation {
     other: f32,
 }
 
-// A resonator after one sample, and the shell with its part.
+// A resonator after one sample, and the shell with its part. No `Turn`: what comes out is no sample, but the sum so far.
 #[derive(Clone, Copy)]
 struct ModeOutput {
     resonator: Svf,
     shell: f32,
 }
 
-// The resonators after one sample, and the shell that they make.
+// The resonators after one sample, and the shell that they make. No `Turn`: the shell is no sample, but a part of one beside the noise.
 #[derive(Clone, Copy)]
 struct ShellOutput {
     resonator: [Svf; 5],
@@ -101,6 +102,7 @@ impl AnalogSnareDrum {
         Ok(self.initialized(sample_rate_hz))
     }
 
+    // The noise state is the one that the Rust's begins with, 0x21.
     fn initialized(self, sample_rate_hz: f32) -> Self
         ensures { result ≡ spec.initialized self sample_rate_hz }
     {
@@ -116,6 +118,7 @@ impl AnalogSnareDrum {
         }
     }
 
+    // Trigger and accent are no `Option<f32>`: these are the Rust's parameters, and accent is asked where there is no trigger too.
     pub fn render(
         self,
         trigger: bool,
@@ -195,6 +198,7 @@ impl AnalogSnareDrum {
     }
 
     // The loop over the block. A `for` and not `block::pass`, whose turn may be asked of any state: this one asks that e be the excitation of its voice.
+    // A struct of the two with that fact as its invariant was tried, and proved: 154 instructions a sample at best, not 149, and 170 in blocks of 64, not 160.
     fn fill(self, settings: Settings, out: &mut [f32]) -> Self
         ensures voice { result ≡ after (spec.step settings) (length out.old) self }
         ensures out { out.new ≡ samples (spec.step settings) (length out.old) self }
@@ -208,7 +212,7 @@ impl AnalogSnareDrum {
             let turn = voice.step(settings, e);
             *sample = turn.sample;
             voice = turn.next;
-            // With the two lines below under `if !at_rest` the compiler pairs the filters' products worse: 203 instructions a sample, not 146.
+            // With the two lines below under `if !at_rest` the compiler pairs the filters' products worse: a third more instructions a sample than the 149 of this form.
             if at_rest {
                 continue;
             }
@@ -222,7 +226,7 @@ impl AnalogSnareDrum {
     fn excitation(self) -> Excitation
         ensures { result ≡ excitation self }
     {
-        // Q45 / Q46
+        // Q45 / Q46; no `TriggerPulse` stands in the voice, but its two fields, which C knows by name.
         let trigger_pulse = TriggerPulse {
             remaining_samples: self.pulse_remaining_samples,
             pulse: self.pulse,

@@ -197,7 +197,8 @@ impl AnalogBassDrum {
 
     // The pulses have come to rest, at most rates in subnormals that their products round back to themselves.
     // No turn changes the excitation any more, and products of subnormals are slow: e is kept.
-    // A `for` and not `block::pass`, whose turn may be asked of any state: this one asks that e be the excitation of its voice.
+    // A `for` and not `block::pass`, whose turn may be asked of any state: this one asks that e be the excitation of its voice. A struct with that fact
+    // as its invariant would hold the settings too; of the analog snare, where it need not, it was tried and takes more instructions.
     fn fill_at_rest(self, settings: Settings, e: Excitation, out: &mut [f32]) -> Self
         requires current { e ≡ excitation settings self }
         requires rest { AtRest self e }

@@ -1,7 +1,7 @@
 // drums/analog_snare_drum.rs: 808 snare drum model, without its sustain mode.
 #![tactic(auto)]
 
-ghost use Rattle.std.specs.Prelude.{◌≡◌, true, cond, length};
+ghost use Rattle.std.specs.Prelude.{◌≡◌, cond, length, ◌↔◌, IsTrue};
 ghost use Rattle.std.specs.Float.Ieee.{lt};
 ghost use Rattle.ieee754.specs.Single.{decimal};
 ghost use Rattle.refusal.specs.Refusal.{answer_number, call_number, call_voice};
@@ -249,7 +249,7 @@ impl AnalogSnareDrum {
     // Whether the turn leaves the pulse and its low-pass as they are.
     // (A derived `==` would have -0.0 equal to 0.0, and a NaN unequal to itself.)
     fn is_at_rest(self, e: Excitation) -> bool
-        ensures { (result ≡ true → AtRest self e) × (AtRest self e → result ≡ true) }
+        ensures { IsTrue result ↔ AtRest self e }
     {
         e.remaining_samples == self.pulse_remaining_samples
             && ieee754::is_same(e.pulse, self.pulse)

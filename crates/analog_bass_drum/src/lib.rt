@@ -176,7 +176,7 @@ impl AnalogBassDrum {
     }
 
     // The loop over the block, a function by itself, since as a part of `render` it takes more instructions a sample (docs/DECISIONS.md).
-    // By index: at rest what is left of the block is handed on, which a loop over `iter_mut` holds.
+    // By index: at rest what is left of the block is handed on. A `for` over `iter_mut` has it borrowed, and a `while let` with `into_slice` is no plainer.
     #[inline(never)]
     fn fill(self, settings: Settings, out: &mut [f32]) -> Self
         ensures voice { result ≡ after (spec.step settings) (length out.old) self }
@@ -198,7 +198,8 @@ impl AnalogBassDrum {
     // The pulses have come to rest, at most rates in subnormals that their products round back to themselves.
     // No turn changes the excitation any more, and products of subnormals are slow: e is kept.
     // A `for` and not `block::pass`, whose turn may be asked of any state: this one asks that e be the excitation of its voice. A struct with that fact
-    // as its invariant would hold the settings too; of the analog snare, where it need not, it was tried and takes more instructions.
+    // as its invariant would hold the settings too, of which the excitation is made here: no plainer. In the analog snare, whose excitation needs none, it was
+    // tried and takes more instructions.
     fn fill_at_rest(self, settings: Settings, e: Excitation, out: &mut [f32]) -> Self
         requires current { e ≡ excitation settings self }
         requires rest { AtRest self e }
@@ -318,7 +319,7 @@ impl AnalogBassDrum {
 }
 
 impl Knobs {
-    // The questions of `render`.
+    // The questions of `render`, written out for each voice: its own knobs, in the scope's order. No `BlockLength`: nothing is made of the length.
     #[tactic(auto, unfolding(crate::specs::AnalogBassDrum::render_refusal, crate::specs::AnalogBassDrum::knobs_refusal))]
     fn asked(self, accent: f32, samples: usize) -> Result<(), Refusal>
         ensures { answer_number result ≡ spec.render_refusal accent self samples }

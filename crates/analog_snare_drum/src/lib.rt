@@ -15,7 +15,7 @@ use filter::{FilterMode, FrequencyApproximation, Svf};
 use refusal::{Refusal, Refused, ask, is_block_length, is_frequency, is_sample_rate, is_unit};
 use trigger_pulse::TriggerPulse;
 
-// The modes' frequencies, gains and filters stand in arrays by place, as in the Rust; the filters also in the record that C knows.
+// Parallel arrays, as in the Rust: the filters' stands in the record that C knows, so a struct of a mode could hold only a gain and a constant frequency.
 const MODE_FREQUENCIES: [f32; 5] = [1.00, 2.00, 3.18, 4.16, 5.62];
 
 #[repr(C)]
@@ -348,7 +348,7 @@ fn tuned_mode(resonator: Svf, f0: f32, mode_frequency: f32, q: f32) -> Svf
 }
 
 impl Knobs {
-    // The questions of `render`.
+    // The questions of `render`, written out for each voice: its own knobs, in the scope's order. No `BlockLength`: nothing is made of the length.
     #[tactic(auto, unfolding(crate::specs::AnalogSnareDrum::render_refusal, crate::specs::AnalogSnareDrum::knobs_refusal))]
     fn asked(self, accent: f32, samples: usize) -> Result<(), Refusal>
         ensures { answer_number result ≡ spec.render_refusal accent self samples }

@@ -14,7 +14,8 @@ pub(crate) trait Drum: Copy {
     // The voice's `render` with that.
     ghost renders: { Self.Sets → Render Self };
 
-    // What `init` makes. Here and in `play` the voice of the call is taken and not its number: no call is refused (`NoneRefused` of `render`).
+    // What `init` makes. Here and in `play` the voice of the call is taken and not its number: no call is refused (`NoneRefused` of `render`). `ZERO`, `init`
+    // and `render` are each voice's own and of no trait, so each impl names its voice's.
     fn begin(sample_rate_hz: f32) -> Self
         ensures { result ≡ (player.init sample_rate_hz).state };
 

@@ -34,7 +34,7 @@ pub fn render(sheet: &[u8], out: &mut [f32]) -> Result<Accepted, RefusedAt>
     let accepted = cue_sheet::judge(sheet)?;
     let length = accepted.head.length as usize;
     if out.len() < length {
-        // No line of a sheet is line 0, which the scope has with 11.
+        // The scope answers 11 with line 0, a number that no line of a sheet has: so this is no `Option` of a line.
         return Err(RefusedAt {
             refusal: SheetRefusal::BufferLength,
             line: 0,
@@ -46,7 +46,7 @@ pub fn render(sheet: &[u8], out: &mut [f32]) -> Result<Accepted, RefusedAt>
     Ok(accepted)
 }
 
-// An accepted sheet, into a buffer of its length.
+// An accepted sheet, into a buffer of its length. Here and in `add_track` it is `sheet` and `head`, and not `CueLines`: the definition's track is of these.
 fn render_voices(sheet: &[u8], head: Head, out: &mut [f32], scratch: &mut [f32])
     requires { Playable head out.old scratch.old }
     ensures { out.new ≡ spec.samples head (strikes head sheet.now) }

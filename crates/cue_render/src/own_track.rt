@@ -25,6 +25,7 @@ pub(crate) fn add_track<D: Drum>(sheet: &[u8], head: Head, out: &mut [f32], scra
 {
     let mut voice = D::begin(ieee754::nearest_f32(head.rate));
     let mut lines = CueLines::begin(sheet, head);
+    // A `while let`: a cue's run ends where the next own cue starts, so one is read ahead.
     let mut next = next_of::<D>(&mut lines);
     while let Some(cue) = next {
         next = next_of::<D>(&mut lines);

@@ -50,7 +50,7 @@ pub fn judge(sheet: &[u8]) -> Result<Accepted, RefusedAt>
         refusal: SheetRefusal::FirstLine,
         line: 1,
     })?;
-    // Counted here as in the walk: of a borrowed iterator nothing is known after a loop.
+    // Counted here though the walk counts too: after a `for` over `&mut lines` nothing is known of `lines`, nor of its count.
     let mut cues = 0;
     for line in CueLines::begin(sheet, head) {
         line?;

@@ -10,7 +10,7 @@ use ieee754::from_bits;
 use refusal::{Refusal, ask, is_bass_decay, is_frequency, is_unit};
 use text::read::{decimal, pattern, split_field, without_end};
 
-// One of four strikes, each with its own knobs.
+// One of four strikes, each with its own knobs under their names; one struct with an a and a c would be no plainer to whoever plays a cue.
 #[derive(Clone, Copy)]
 pub enum Cue {
     Bass {

@@ -1,5 +1,5 @@
 // utils/filter.rs: zero-delay-feedback filters, one pole and state variable. A filter goes in by value and comes back with its output, in
-// structs that cross to C by their names, which a pair or one generic struct has not.
+// structs that cross to C by their names: a pair, or one generic struct, has none there.
 #![tactic(auto)]
 
 ghost use Rattle.std.specs.Prelude.{◌≡◌};

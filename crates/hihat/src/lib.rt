@@ -54,7 +54,8 @@ pub struct Knobs {
     pub two_stage_envelope: bool,
 }
 
-// What stays the same over a block. `sustain` and the increment of its gain are no `Option`: as in the Rust, a block that does not sustain has an interpolator too.
+// What stays the same over a block. `sustain` and the increment of its gain are no `Option`: in the Rust a block that does not
+// sustain has an interpolator too, and an `Option` would need a definition beside the Rust's: no plainer.
 #[derive(Clone, Copy)]
 struct Settings {
     envelope_decay: f32,
@@ -109,6 +110,7 @@ impl Hihat {
         }
     }
 
+    // The Rust's parameters: accent and decay are knobs beside trigger, which a sustained block reads too.
     pub fn render(
         self,
         trigger: bool,

@@ -26,7 +26,7 @@ fn mul16(a: u32, b: u32) -> u32
 
 // Rust's `u32::wrapping_mul`, put together from 16-bit halves: first a * b_low, then what b_high adds. The product of the two high halves is left out:
 // it would add a multiple of 2^32. The sums are calls: of `wrapping_add`, which is no call, the compiler does not make one multiplication, and `get_float`
-// takes 44 instructions for 35.
+// takes 44 instructions, not 35.
 fn wrapping_mul(a: u32, b: u32) -> u32
     ensures { result ≡ a * b % 2 ^ 32 }
 {

@@ -39,7 +39,8 @@ pub struct Refused<V> {
     pub refusal: Refusal,
 }
 
-// Each voice has `init`, `render`, `strike` and `run` of its own, with the Rust's parameters: its questions, a `?` that hands the voice back, and one line.
+// No trait for `init`, `render`, `strike` and `run`: their parameters are the Rust's and differ from voice to voice, but for `init`, and each is its questions,
+// a `?` that hands the voice back by `of`, and one line. So a trait is no plainer.
 impl Refusal {
     pub fn of<V>(self, voice: V) -> Refused<V>
         ensures { result ≡ record { refusal = self; voice = voice } }
@@ -70,6 +71,7 @@ pub fn ask<E: Drop>(passes: bool, refusal: E) -> Result<(), E>
     if passes { Ok(()) } else { Err(refusal) }
 }
 
+// The scope's two comparisons. (A range's `contains` goes by `partial_cmp`.)
 fn within(low: f32, high: f32, x: f32) -> bool
     ensures { result ≡ spec.within low high x }
 {

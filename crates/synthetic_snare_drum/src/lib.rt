@@ -46,8 +46,8 @@ pub struct Knobs {
     pub snappy: f32,
 }
 
-// What stays the same over a block: fm_amount is squared here, and snappy clamped. `sustain` and its increment are no `Option`: as in the Rust, a block that
-// does not sustain has an interpolator too.
+// What stays the same over a block: fm_amount is squared here, and snappy clamped. `sustain` and its increment are no `Option`: in the Rust a block that
+// does not sustain has an interpolator too, and an `Option` would need a definition beside the Rust's: no plainer.
 #[derive(Clone, Copy)]
 struct Settings {
     sustain: bool,
@@ -105,6 +105,7 @@ impl SyntheticSnareDrum {
         }
     }
 
+    // The Rust's parameters: accent and decay are knobs beside trigger, which a sustained block reads too.
     pub fn render(self, trigger: bool, knobs: Knobs, out: &mut [f32]) -> Result<Self, Refused<Self>>
         ensures number { call_number result ≡ (render self trigger knobs out.old).number }
         ensures voice { call_voice result ≡ (render self trigger knobs out.old).state }
@@ -193,7 +194,8 @@ impl SyntheticSnareDrum {
         ensures { (size : ℕ) → result ≡ spec.step settings size self }
     {
         let v = self.enveloped(settings);
-        // Two oscillators, one after the other as in the Rust: the second runs at 1.47 times the frequency of the first.
+        // Two oscillators, written one after the other as in the Rust. An array is no plainer: the reset noise is made of both phases before either moves,
+        // and 1.47 and 0.25 are the second's own.
         let phase_0 = v.phase[0];
         let phase_1 = v.phase[1];
 

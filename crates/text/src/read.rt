@@ -54,7 +54,7 @@ fn digit(b: u8) -> Option<u64>
 }
 
 // The number that digits in a base stand for, if it is at most `limit`. A number that passes the limit on the way stays above it.
-// (The library's `parse` and `from_str_radix` take a sign, zeros in front and capitals, which a sheet may not have.)
+// (The library's `parse` and `from_str_radix` take a sign, zeros in front and capitals, which an input may not have.)
 fn numeral(text: &[u8], base: u64, limit: u32) -> Option<u32>
     requires some { 0 < base }
     requires few { base ≤ 16 }

@@ -1,6 +1,6 @@
 // Bytes and numbers written into a buffer, from a place on. Bytes past the end of the buffer are dropped, so texts that are written one
-// after the other need no test of the room between them. Numbers are printed by hand: the library's `Display` and `LowerHex` print to a
-// `fmt::Write` and answer a `Result`, and their contracts say what is written only where it is `Ok`, and not when it is.
+// after the other need no test of the room between them. Numbers are printed by hand: the contracts of `Display` and `LowerHex` say
+// what is written where the result is `Ok`, but not when it is `Ok`. (The kit's crates `itoa` and `hex` say both; the port takes std alone: docs/DECISIONS.md.)
 ghost use Rattle.std.specs.Prelude.{[], ◌∷◌, ◌++◌, ◌≡◌, ◌<◌};
 ghost use Rattle.text.specs.Write as Write;
 
@@ -31,7 +31,7 @@ impl Writer<'_> {
         }
     }
 
-    // Byte by byte: by `copy_from_slice` of what fits, a sheet was printed by up to 1 % more instructions, and the proof was longer.
+    // Byte by byte: with `copy_from_slice` of what fits, printing a sheet took up to 1 % more instructions, and the proof was longer.
     pub fn bytes(&mut self, text: &[u8])
         ensures { Writes self.old text.now self.new }
     {

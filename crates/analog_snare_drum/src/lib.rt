@@ -177,6 +177,7 @@ impl AnalogSnareDrum {
         ensures { result ≡ spec.tuned settings self }
     {
         let f0 = settings.f0;
+        // (With `from_fn`, over the calls or over one function of the place, the proof did not close.)
         let mut resonator = [Svf::ZERO; 5];
         for i in 0..5 {
             let q = if i == 0 {
@@ -295,6 +296,7 @@ impl AnalogSnareDrum {
     fn shell_output(self, settings: Settings, first: f32, other: f32) -> ShellOutput
         ensures { result ≡ spec.shell_output settings self.resonator first other }
     {
+        // By index: three arrays by place, and the sum goes from mode to mode.
         let mut resonator = [Svf::ZERO; 5];
         let mut shell = 0.0;
         for i in 0..5 {

@@ -15,7 +15,7 @@ use Rattle.ieee754.specs.Single.{◌⊗◌, decimal}
 use Rattle.refusal.specs.Refusal.{within, is_bass_decay}
 use Rattle.units.specs.Units.{pitch_of, ratio_at, ratio}
 use Rattle.units.specs.Accuracy.{InTables}
-use Rattle.analog_bass_drum.specs.AnalogBassDrum.{settings, render_refusal, knobs_refusal}
+use Rattle.analog_bass_drum.specs.AnalogBassDrum.{settings, run_refusal, knobs_refusal}
 use Rattle.analog_bass_drum.specs.HeldDecay.{first_past, last_in_tables, decay_pitch, IsPast, HeldDecay}
 
 -- ---- the pitch: 80 times the first decay past the tables is 128 - 2 ^ -17, whose sum with 128 is rounded to 256; so is that of what is larger
@@ -85,9 +85,9 @@ module _ (decay : Float) (h : IsPast decay) where
       rw (is_true (le (decimal 0 0) decay) from-0, is_true (le decay (decimal 2 0)) range.1) last-passes
 
 pub held-decay : HeldDecay
-unfolding settings render_refusal knobs_refusal
+unfolding settings run_refusal knobs_refusal
 held-decay = record {
   last = last_in;
   past = beyond;
-  same = λ v trigger accent k out h. rw (held k.decay h, passes k.decay h);
+  same = λ v k out h. rw (held k.decay h, passes k.decay h);
 }

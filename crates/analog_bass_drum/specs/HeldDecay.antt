@@ -1,13 +1,13 @@
--- Past the tables' end a longer decay changes nothing: from 3fcccccc (1.5999999) on a call is that with 3fcccccb, the last decay whose pitch has a place
+-- Past the tables' end a longer decay changes nothing: from 3fcccccc (1.5999999) on a run is that with 3fcccccb, the last decay whose pitch has a place
 -- in them and the last for which the Rust does not panic. Definitions only.
-use Rattle.std.specs.Prelude.{ℕ, ◌+◌, ◌≡◌, Bool, List, T, Float}
+use Rattle.std.specs.Prelude.{ℕ, ◌+◌, ◌≡◌, List, T, Float}
 use Rattle.std.specs.Float.{binary32}
 use Rattle.std.specs.Float.Ieee.{of_bits, le}
 use Rattle.ieee754.specs.Single.{◌⊗◌, decimal}
 use Rattle.refusal.specs.Refusal.{within}
 use Rattle.units.specs.Units.{pitch_of}
 use Rattle.units.specs.Accuracy.{InTables}
-use Rattle.analog_bass_drum.specs.AnalogBassDrum.{render}
+use Rattle.analog_bass_drum.specs.AnalogBassDrum.{run}
 use Rattle.analog_bass_drum.specs.declared.AnalogBassDrum.{AnalogBassDrum}
 use Rattle.analog_bass_drum.specs.declared.Knobs.{Knobs}
 
@@ -38,9 +38,8 @@ decay_pitch decay = pitch_of (decay ⊗ decimal 80 0)
 abbrev pub IsPast : Float → Type 0
 IsPast decay = T (within first_past (decimal 2 0) decay)
 
--- last_in_tables has a place in the tables; first_past and every longer decay have none, and a call with one of them is the call with last_in_tables
+-- last_in_tables has a place in the tables; first_past and every longer decay have none, and a run with one of them is the run with last_in_tables
 pub record HeldDecay : Type 0 where
   pub last : InTables (decay_pitch last_in_tables)
   pub past : (decay : Float) → IsPast decay → T (le (decimal 256 0) (decay_pitch decay))
-  pub same : (v : AnalogBassDrum) (trigger : Bool) (accent : Float) (k : Knobs) (out : List Float) → IsPast k.decay
-      → render v trigger accent k out ≡ render v trigger accent (with_decay last_in_tables k) out
+  pub same : (v : AnalogBassDrum) (k : Knobs) (out : List Float) → IsPast k.decay → run v k out ≡ run v (with_decay last_in_tables k) out

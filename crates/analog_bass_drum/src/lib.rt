@@ -121,30 +121,7 @@ impl AnalogBassDrum {
         }
     }
 
-    // The Rust's parameters: no `Option` of an accent, which is asked where there is no trigger too.
-    pub fn render(
-        self,
-        trigger: bool,
-        accent: f32,
-        knobs: Knobs,
-        out: &mut [f32],
-    ) -> Result<Self, Refused<Self>>
-        ensures number { call_number result ≡ (spec.render self trigger accent knobs out.old).number }
-        ensures voice { call_voice result ≡ (spec.render self trigger accent knobs out.old).state }
-        ensures out { out.new ≡ (spec.render self trigger accent knobs out.old).out }
-    {
-        knobs
-            .asked(accent, out.len())
-            .map_err(|refusal| refusal.of(self))?;
-        let voice = if trigger {
-            self.triggered(accent)
-        } else {
-            self
-        };
-        Ok(voice.fill(knobs.settings(), out))
-    }
-
-    // `render` as two calls: what it does where its trigger is set, and a block without a trigger.
+    // What the Rust's `render` does where its trigger is set, and nothing else.
     pub fn strike(self, accent: f32) -> Result<Self, Refused<Self>>
         ensures number { call_number result ≡ (spec.strike self accent).number }
         ensures voice { call_voice result ≡ (spec.strike self accent).state }
@@ -153,14 +130,14 @@ impl AnalogBassDrum {
         Ok(self.triggered(accent))
     }
 
-    // 0.0 passes the question that an untriggered `render` asks of an accent and makes nothing of.
-    #[tactic(auto, using(refusal::proofs::StrikeAndRun::no_accent), unfolding(crate::specs::AnalogBassDrum::render_refusal, crate::specs::AnalogBassDrum::run_refusal))]
+    // The Rust's `render` where its trigger is not set: it makes nothing of accent then, and none is taken.
     pub fn run(self, knobs: Knobs, out: &mut [f32]) -> Result<Self, Refused<Self>>
         ensures number { call_number result ≡ (spec.run self knobs out.old).number }
         ensures voice { call_voice result ≡ (spec.run self knobs out.old).state }
         ensures out { out.new ≡ (spec.run self knobs out.old).out }
     {
-        self.render(false, 0.0, knobs, out)
+        knobs.asked(out.len()).map_err(|refusal| refusal.of(self))?;
+        Ok(self.fill(knobs.settings(), out))
     }
 
     fn triggered(self, accent: f32) -> Self
@@ -175,7 +152,7 @@ impl AnalogBassDrum {
         }
     }
 
-    // The loop over the block, a function by itself, since as a part of `render` it takes more instructions a sample (docs/DECISIONS.md).
+    // The loop over the block, a function by itself, since as a part of `run` it takes more instructions a sample (docs/DECISIONS.md).
     // By index: at rest what is left of the block is handed on. A `for` over `iter_mut` has it borrowed, and a `while let` with `into_slice` is no plainer.
     #[inline(never)]
     fn fill(self, settings: Settings, out: &mut [f32]) -> Self
@@ -319,14 +296,13 @@ impl AnalogBassDrum {
 }
 
 impl Knobs {
-    // The questions of `render`, written out for each voice: its own knobs, in the scope's order. No `BlockLength`: nothing is made of the length.
-    #[tactic(auto, unfolding(crate::specs::AnalogBassDrum::render_refusal, crate::specs::AnalogBassDrum::knobs_refusal))]
-    fn asked(self, accent: f32, samples: usize) -> Result<(), Refusal>
-        ensures { answer_number result ≡ spec.render_refusal accent self samples }
+    // The questions of a run, written out for each voice: its own knobs, in the scope's order. No `BlockLength`: nothing is made of the length.
+    #[tactic(auto, unfolding(crate::specs::AnalogBassDrum::run_refusal, crate::specs::AnalogBassDrum::knobs_refusal))]
+    fn asked(self, samples: usize) -> Result<(), Refusal>
+        ensures { answer_number result ≡ spec.run_refusal self samples }
     {
         ask(is_block_length(samples), Refusal::BlockLength)?;
         ask(is_frequency(self.f0), Refusal::Frequency)?;
-        ask(is_unit(accent), Refusal::Accent)?;
         ask(is_unit(self.tone), Refusal::Knob)?;
         ask(is_bass_decay(self.decay), Refusal::Knob)?;
         ask(is_unit(self.attack_fm_amount), Refusal::Knob)?;

@@ -2,7 +2,6 @@
 use Prim.Native.Nat.{ℕ, ◌+◌}
 use native.Mathlib.Omega.{arith}
 use mathlib.Core.Path.{◌≡◌, refl, ap}
-use mathlib.Core.Bool.{false, cond}
 use lib.ListN.{length, length-append}
 use Rattle.block.proofs.Blocks.{samples-add, after-add, after_holds}
 use Rattle.refusal.specs.Rows.{InTwo, InRows}
@@ -11,7 +10,7 @@ use Rattle.refusal.proofs.Rows.{in_rows}
 use Rattle.filter.specs.Svf as Filter
 use Rattle.filter.specs.declared.Svf.{Svf}
 use Rattle.filter.proofs.Tuned.{svf_stays}
-use Rattle.analog_snare_drum.specs.AnalogSnareDrum.{filter_of, settings, triggered, tuned_mode, tuned, mode_output, shell_output, step, render_refusal, render}
+use Rattle.analog_snare_drum.specs.AnalogSnareDrum.{filter_of, settings, tuned_mode, tuned, mode_output, shell_output, step, run_refusal}
 use Rattle.analog_snare_drum.specs.AnyBlockLength.{AnyBlockLength}
 use Rattle.analog_snare_drum.specs.declared.AnalogSnareDrum.{AnalogSnareDrum}
 use Rattle.analog_snare_drum.specs.declared.Settings.{Settings}
@@ -40,15 +39,14 @@ stays b v e =
     )
 
 pub any_block_length : AnyBlockLength InTwo
-unfolding render_refusal
-any_block_length v trigger accent k a b h =
+unfolding run_refusal
+any_block_length k v a b h =
     let whole = rw length-append at h in
     let first = shorter (length a) (length a + length b) _ (omega arith) whole in
     let second = shorter (length b) (length a + length b) _ (omega arith) whole in
     let q = settings k in
-    let again = after_holds (step q) (Tuned q) (stays q) (length a) _ (begins q (cond trigger (triggered v accent) v)) in
+    let again = after_holds (step q) (Tuned q) (stays q) (length a) _ (begins q v) in
     rw (length-append, whole, first, second, again, after-add, samples-add)
 
 pub any_block_lengths : AnyBlockLength InRows
-any_block_lengths v trigger accent k =
-    in_rows (λ left. render left false accent k) (λ left. any_block_length left false accent k) _ (any_block_length v trigger accent k)
+any_block_lengths k = in_rows _ (any_block_length k)

@@ -1,13 +1,10 @@
--- Any audio block length: an accepted block is a block of its first samples and then untriggered blocks of the others, with the same knobs,
--- for every record, the noise state in it, whether calls reach it or not. Definitions only.
-use Rattle.std.specs.Prelude.{Bool, false, Float}
+-- Any audio block length: an accepted run is a run over its first samples and then runs over the others, with the same knobs, for every record, struck or not,
+-- the noise state in it, whether calls reach it or not. Definitions only.
 use Rattle.refusal.specs.Rows.{Law}
-use Rattle.analog_snare_drum.specs.AnalogSnareDrum.{render}
+use Rattle.analog_snare_drum.specs.AnalogSnareDrum.{run}
 use Rattle.analog_snare_drum.specs.declared.AnalogSnareDrum.{AnalogSnareDrum}
 use Rattle.analog_snare_drum.specs.declared.Knobs.{Knobs}
 
--- the theorems are AnyBlockLength InTwo, a block in two, and AnyBlockLength InRows, in any number of blocks
+-- the theorems are AnyBlockLength InTwo, a run in two, and AnyBlockLength InRows, in any number of runs
 abbrev pub AnyBlockLength : Law AnalogSnareDrum → Type 0
-AnyBlockLength Holds =
-    (v : AnalogSnareDrum) (trigger : Bool) (accent : Float) (k : Knobs)
-    → Holds (render v trigger accent k) (λ left. render left false accent k)
+AnyBlockLength Holds = (k : Knobs) → Holds (λ v. run v k)

@@ -7,7 +7,6 @@ ghost use Rattle.ieee754.specs.Single.{decimal};
 ghost use Rattle.refusal.specs.Refusal.{answer_number, call_number, call_voice};
 ghost use Rattle.block.specs.Block.{samples, after};
 ghost use Rattle.analog_snare_drum.specs.AnalogSnareDrum as spec;
-ghost use Rattle.analog_snare_drum.specs.AnalogSnareDrum.{render};
 ghost use Rattle.analog_snare_drum.specs.Excitation.{excitation, AtRest};
 
 use block::Turn;
@@ -118,31 +117,7 @@ impl AnalogSnareDrum {
         }
     }
 
-    // Trigger and accent are no `Option<f32>`: these are the Rust's parameters, and accent is asked where there is no trigger too.
-    pub fn render(
-        self,
-        trigger: bool,
-        accent: f32,
-        knobs: Knobs,
-        out: &mut [f32],
-    ) -> Result<Self, Refused<Self>>
-        ensures number { call_number result ≡ (render self trigger accent knobs out.old).number }
-        ensures voice { call_voice result ≡ (render self trigger accent knobs out.old).state }
-        ensures out { out.new ≡ (render self trigger accent knobs out.old).out }
-    {
-        knobs
-            .asked(accent, out.len())
-            .map_err(|refusal| refusal.of(self))?;
-        let settings = knobs.settings();
-        let voice = if trigger {
-            self.triggered(accent)
-        } else {
-            self
-        };
-        Ok(voice.tuned(settings).fill(settings, out))
-    }
-
-    // `render` as two calls: what it does where its trigger is set, and a block without a trigger.
+    // What the Rust's `render` does where its trigger is set, and nothing else.
     pub fn strike(self, accent: f32) -> Result<Self, Refused<Self>>
         ensures number { call_number result ≡ (spec.strike self accent).number }
         ensures voice { call_voice result ≡ (spec.strike self accent).state }
@@ -151,14 +126,15 @@ impl AnalogSnareDrum {
         Ok(self.triggered(accent))
     }
 
-    // 0.0 passes the question that an untriggered `render` asks of an accent and makes nothing of.
-    #[tactic(auto, using(refusal::proofs::StrikeAndRun::no_accent), unfolding(crate::specs::AnalogSnareDrum::render_refusal, crate::specs::AnalogSnareDrum::run_refusal))]
+    // The Rust's `render` where its trigger is not set: it makes nothing of accent then, and none is taken.
     pub fn run(self, knobs: Knobs, out: &mut [f32]) -> Result<Self, Refused<Self>>
         ensures number { call_number result ≡ (spec.run self knobs out.old).number }
         ensures voice { call_voice result ≡ (spec.run self knobs out.old).state }
         ensures out { out.new ≡ (spec.run self knobs out.old).out }
     {
-        self.render(false, 0.0, knobs, out)
+        knobs.asked(out.len()).map_err(|refusal| refusal.of(self))?;
+        let settings = knobs.settings();
+        Ok(self.tuned(settings).fill(settings, out))
     }
 
     fn triggered(self, accent: f32) -> Self
@@ -350,14 +326,13 @@ fn tuned_mode(resonator: Svf, f0: f32, mode_frequency: f32, q: f32) -> Svf
 }
 
 impl Knobs {
-    // The questions of `render`, written out for each voice: its own knobs, in the scope's order. No `BlockLength`: nothing is made of the length.
-    #[tactic(auto, unfolding(crate::specs::AnalogSnareDrum::render_refusal, crate::specs::AnalogSnareDrum::knobs_refusal))]
-    fn asked(self, accent: f32, samples: usize) -> Result<(), Refusal>
-        ensures { answer_number result ≡ spec.render_refusal accent self samples }
+    // The questions of a run, written out for each voice: its own knobs, in the scope's order. No `BlockLength`: nothing is made of the length.
+    #[tactic(auto, unfolding(crate::specs::AnalogSnareDrum::run_refusal, crate::specs::AnalogSnareDrum::knobs_refusal))]
+    fn asked(self, samples: usize) -> Result<(), Refusal>
+        ensures { answer_number result ≡ spec.run_refusal self samples }
     {
         ask(is_block_length(samples), Refusal::BlockLength)?;
         ask(is_frequency(self.f0), Refusal::Frequency)?;
-        ask(is_unit(accent), Refusal::Accent)?;
         ask(is_unit(self.tone), Refusal::Knob)?;
         ask(is_unit(self.decay), Refusal::Knob)?;
         ask(is_unit(self.snappy), Refusal::Knob)?;

@@ -1,6 +1,6 @@
 -- Unsustained, the settings depend on the length in the interpolator's increment alone, which no pass reads; and a voice that is tuned stays so. What is
 -- left is `block`'s law of a stage over two buffers.
-use Rattle.std.proofs.Common.{◌≡◌, ℕ, Bool, true, false, cond, ◌++◌, length, refl, ap, arith, length-append}
+use Rattle.std.proofs.Common.{◌≡◌, ℕ, false, ◌++◌, length, refl, ap, arith, length-append}
 use mathlib.Core.Path.{fun_ext}
 use lib.Ieee.{Float}
 use Rattle.block.specs.Block.{Passed, scanned, pass, setting}
@@ -10,7 +10,7 @@ use Rattle.refusal.proofs.ByNumber.{shorter_at_rate}
 use Rattle.refusal.proofs.Rows.{in_rows}
 use Rattle.filter.specs.Svf as Svf
 use Rattle.filter.proofs.Tuned.{svf_stays}
-use Rattle.hihat.specs.Hihat.{settings, triggered, metallic, set_coloration, colored, clocked, decay, amplified, set_hpf, high_passed, passes, render_refusal, render}
+use Rattle.hihat.specs.Hihat.{settings, metallic, set_coloration, colored, clocked, decay, amplified, set_hpf, high_passed, passes, render_refusal}
 use Rattle.hihat.specs.OnePass.{tuned, step}
 use Rattle.hihat.specs.AnyBlockLength.{AnyBlockLength, AnyNoiseLength}
 use Rattle.hihat.specs.declared.Hihat.{Hihat}
@@ -38,10 +38,9 @@ record Tuned (b : Settings) (hz : Float) (v : Hihat) : Type 0 where
   again : tuned b v ≡ v
   rate : v.sample_rate ≡ hz
 
-begins : (b : Settings) (v : Hihat) (trigger : Bool) (k : Knobs) → Tuned b v.sample_rate (tuned b (cond trigger (triggered v k.accent k.decay) v))
-unfolding triggered set_coloration set_hpf Svf.set_g_q Svf.set_g_r
-begins b v true k = record { again = refl; rate = refl }
-begins b v false k = record { again = refl; rate = refl }
+begins : (b : Settings) (v : Hihat) → Tuned b v.sample_rate (tuned b v)
+unfolding set_coloration set_hpf Svf.set_g_q Svf.set_g_r
+begins b v = record { again = refl; rate = refl }
 
 stays : (b : Settings) (hz : Float) (v : Hihat) (x : Float) → Tuned b hz v → Tuned b hz (step b v x).next
 unfolding step metallic set_coloration colored clocked amplified set_hpf high_passed
@@ -56,13 +55,13 @@ stays b hz v x t = record {
 
 pub any_block_length : AnyBlockLength InTwo
 unfolding render_refusal
-any_block_length v trigger kind k unsustained a b h =
+any_block_length kind k unsustained v a b h =
     let n = length (a ++ b) in
     let first = shorter_at_rate v.sample_rate n _ h (length a) (omega (arith, length-append a b)) in
     let second = shorter_at_rate v.sample_rate n _ h (length b) (omega (arith, length-append a b)) in
     let q = settings v kind k n in
-    let t = scanned_holds (step q) (Tuned q v.sample_rate) (stays q _) _ a (begins q v trigger k) in
-    let left = scanned (step q) (tuned q (cond trigger (triggered v k.accent k.decay) v)) a in
+    let t = scanned_holds (step q) (Tuned q v.sample_rate) (stays q _) _ a (begins q v) in
+    let left = scanned (step q) (tuned q v) a in
     rw (
       h,
       first,
@@ -77,9 +76,7 @@ any_block_length v trigger kind k unsustained a b h =
     )
 
 pub any_block_lengths : AnyBlockLength InRows
-any_block_lengths v trigger kind k unsustained =
-    in_rows (λ left. render left false kind k) (λ left. any_block_length left false kind k unsustained) _
-    (any_block_length v trigger kind k unsustained)
+any_block_lengths kind k unsustained = in_rows _ (any_block_length kind k unsustained)
 
 pub any_noise_length : AnyNoiseLength
 any_noise_length f0 = any_lengths _

@@ -9,7 +9,6 @@ ghost use Rattle.std.specs.Prelude.{◌≡◌, if◌then◌else◌, Float, IfOk}
 ghost use Rattle.refusal.specs.Refusal.{answer_number, call_number, call_voice};
 ghost use Rattle.ieee754.specs.Single.{◌⊕◌, ◌⊗◌, decimal};
 ghost use Rattle.hihat.specs.Hihat as spec;
-ghost use Rattle.hihat.specs.Hihat.{render};
 ghost use Rattle.hihat.specs.OnePass.{tuned, step};
 
 use block::Turn;
@@ -40,7 +39,7 @@ pub struct Hihat {
     pub noise: u32,
 }
 
-// The parameters of `render`, but for the trigger and the kind of the VCA.
+// The parameters of a block, but for the kind of the VCA.
 #[repr(C)]
 #[derive(Clone, Copy)]
 pub struct Knobs {
@@ -110,31 +109,7 @@ impl Hihat {
         }
     }
 
-    // The Rust's parameters: accent and decay are knobs beside trigger, which a sustained block reads too.
-    pub fn render(
-        self,
-        trigger: bool,
-        vca_type: VcaType,
-        knobs: Knobs,
-        out: &mut [f32],
-    ) -> Result<Self, Refused<Self>>
-        ensures number { call_number result ≡ (render self trigger vca_type knobs out.old).number }
-        ensures voice { call_voice result ≡ (render self trigger vca_type knobs out.old).state }
-        ensures out { out.new ≡ (render self trigger vca_type knobs out.old).out }
-    {
-        let length = knobs
-            .asked(self.sample_rate, out.len())
-            .map_err(|refusal| refusal.of(self))?;
-        let settings = knobs.settings(self, vca_type, length);
-        let voice = if trigger {
-            self.triggered(knobs.accent, knobs.decay)
-        } else {
-            self
-        };
-        Ok(voice.passes(settings, out))
-    }
-
-    // `render` as two calls: what it does where its trigger is set, and a block without a trigger.
+    // What the Rust's `render` does where its trigger is set, and nothing else.
     pub fn strike(self, accent: f32, decay: f32) -> Result<Self, Refused<Self>>
         ensures number { call_number result ≡ (spec.strike self accent decay).number }
         ensures voice { call_voice result ≡ (spec.strike self accent decay).state }
@@ -143,6 +118,7 @@ impl Hihat {
         Ok(self.triggered(accent, decay))
     }
 
+    // The Rust's `render` where its trigger is not set. accent stays a knob: a sustained block goes to accent times decay.
     pub fn run(
         self,
         vca_type: VcaType,
@@ -153,7 +129,10 @@ impl Hihat {
         ensures voice { call_voice result ≡ (spec.run self vca_type knobs out.old).state }
         ensures out { out.new ≡ (spec.run self vca_type knobs out.old).out }
     {
-        self.render(false, vca_type, knobs, out)
+        let length = knobs
+            .asked(self.sample_rate, out.len())
+            .map_err(|refusal| refusal.of(self))?;
+        Ok(self.passes(knobs.settings(self, vca_type, length), out))
     }
 
     fn triggered(self, accent: f32, decay: f32) -> Self
@@ -184,7 +163,7 @@ impl Hihat {
         }
     }
 
-    // The passes over the block, in one. A function by itself, since as a part of `render` it takes more instructions a sample (docs/DECISIONS.md).
+    // The passes over the block, in one. A function by itself, since as a part of `run` it takes more instructions a sample (docs/DECISIONS.md).
     #[inline(never)]
     fn passes(self, settings: Settings, out: &mut [f32]) -> Self
         ensures voice { result ≡ (spec.passes settings (record { state = self; out = out.old })).state }
@@ -221,7 +200,7 @@ impl Hihat {
 }
 
 impl Knobs {
-    // The questions of `render`, written out for each voice: its own knobs, in the scope's order.
+    // The questions of a run, written out for each voice: its own knobs, in the scope's order.
     #[tactic(auto, unfolding(crate::specs::Hihat::render_refusal))]
     fn asked(self, sample_rate: f32, samples: usize) -> Result<BlockLength, Refusal>
         ensures number { answer_number result ≡ spec.render_refusal sample_rate self samples }
@@ -237,7 +216,7 @@ impl Knobs {
         Ok(length)
     }
 
-    // The lines of `render` outside its passes.
+    // The lines of the Rust's `render` outside its passes.
     fn settings(self, voice: Hihat, vca_type: VcaType, length: BlockLength) -> Settings
         ensures { result ≡ spec.settings voice vca_type self length }
     {

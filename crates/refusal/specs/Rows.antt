@@ -17,17 +17,17 @@ unfoldable pub row : {State : Type 0} → (State → List Float → Call State) 
 row next first [] = first
 row next first (out ∷ outs) = both first (row next (next first.state out) outs)
 
--- what may hold of a call and of those after it: `first` is the call by its buffer, `next` one after it by the state that is left and its own buffer
+-- what may hold of a run, by the state that it begins from and its buffer
 abbrev pub Law : Type 0 → Type 1
-Law State = (List Float → Call State) → (State → List Float → Call State) → Type 0
+Law State = (State → List Float → Call State) → Type 0
 
--- where `first` accepts a buffer, it gives what it gives over a part of that buffer and then `next` over the rest
+-- where a buffer is accepted, a run over it is a run over a part of it and then a run over the rest
 abbrev pub InTwo : {State : Type 0} → Law State
-InTwo first next = (a b : List Float) → (first (a ++ b)).number ≡ 0 → first (a ++ b) ≡ both (first a) (next (first a).state b)
+InTwo run = (s : _) (a b : List Float) → (run s (a ++ b)).number ≡ 0 → run s (a ++ b) ≡ both (run s a) (run (run s a).state b)
 
--- any number of parts: where `first` accepts a buffer, it gives what a row of calls over its parts gives; and two rows over one buffer, of any length, whose
--- calls are all accepted give the same
-pub record InRows {State : Type 0} (first : List Float → Call State) (next : State → List Float → Call State) : Type 0 where
-  pub whole : (a : List Float) (outs : List (List Float)) → (first (a ++ flatten outs)).number ≡ 0 → first (a ++ flatten outs) ≡ row next (first a) outs
-  pub cuts : (a a' : List Float) (outs outs' : List (List Float)) → a ++ flatten outs ≡ a' ++ flatten outs'
-      → (row next (first a) outs).number ≡ 0 → (row next (first a') outs').number ≡ 0 → row next (first a) outs ≡ row next (first a') outs'
+-- any number of parts: where a buffer is accepted, a run over it is a row of runs over its parts; and two rows over one buffer, of any length, whose runs are all
+-- accepted give the same
+pub record InRows {State : Type 0} (run : State → List Float → Call State) : Type 0 where
+  pub whole : (s : State) (a : List Float) (outs : List (List Float)) → (run s (a ++ flatten outs)).number ≡ 0 → run s (a ++ flatten outs) ≡ row run (run s a) outs
+  pub cuts : (s : State) (a a' : List Float) (outs outs' : List (List Float)) → a ++ flatten outs ≡ a' ++ flatten outs'
+      → (row run (run s a) outs).number ≡ 0 → (row run (run s a') outs').number ≡ 0 → row run (run s a) outs ≡ row run (run s a') outs'

@@ -11,5 +11,5 @@ pub record StrikeAndRun {State : Type 0} (v : State) (render : Bool → List Flo
   pub accepted : (out : List Float) → (both strike (run strike.state out)).number ≡ 0 → (render true out).number ≡ 0
   -- where the untriggered render is accepted, the run alone is that render
   pub untriggered : (out : List Float) → (render false out).number ≡ 0 → run v out ≡ render false out
-  -- where the run is refused, the strike before it stands
-  pub stands : (out : List Float) (n : ℕ) → (run strike.state out).number ≡ suc n → (run strike.state out).state ≡ strike.state
+  -- where the run is refused, the strike before it stands, and the buffer is as it was
+  pub stands : (out : List Float) (n : ℕ) → (run strike.state out).number ≡ suc n → run strike.state out ≡ record { number = suc n; state = strike.state; out = out }

@@ -3,7 +3,7 @@
 use Prim.Native.Nat.{ℕ, ◌+◌}
 use native.Mathlib.Omega.{arith}
 use mathlib.Core.Path.{◌≡◌, refl, ap, fun_ext}
-use mathlib.Core.Bool.{Bool, true, false, cond}
+use mathlib.Core.Bool.{false}
 use lib.ListN.{length, length-append}
 use lib.Ieee.{Float}
 use Rattle.block.specs.Block.{after}
@@ -14,7 +14,7 @@ use Rattle.refusal.proofs.Rows.{in_rows}
 use Rattle.filter.specs.OnePole as OnePole
 use Rattle.filter.specs.Svf as Svf
 use Rattle.filter.proofs.Tuned.{svf_stays, one_pole_stays}
-use Rattle.synthetic_snare_drum.specs.SyntheticSnareDrum.{settings, tuned, triggered, step, render_refusal, render}
+use Rattle.synthetic_snare_drum.specs.SyntheticSnareDrum.{settings, tuned, step, render_refusal}
 use Rattle.synthetic_snare_drum.specs.AnyBlockLength.{AnyBlockLength}
 use Rattle.synthetic_snare_drum.specs.declared.SyntheticSnareDrum.{SyntheticSnareDrum}
 use Rattle.synthetic_snare_drum.specs.declared.Knobs.{Knobs}
@@ -48,23 +48,20 @@ stays b size hz v t = record {
   rate = t.rate;
 }
 
-begins : (b : Settings) (v : SyntheticSnareDrum) (trigger : Bool) (k : Knobs)
-    → let w = tuned v b in
-    Tuned b v.sample_rate_hz (cond trigger (triggered w k.accent k.decay) w)
-unfolding tuned triggered OnePole.set_f Svf.set_g_q Svf.set_g_r
-begins b v true k = record { again = refl; rate = refl }
-begins b v false k = record { again = refl; rate = refl }
+begins : (b : Settings) (v : SyntheticSnareDrum) → Tuned b v.sample_rate_hz (tuned v b)
+unfolding tuned OnePole.set_f Svf.set_g_q Svf.set_g_r
+begins b v = record { again = refl; rate = refl }
 
 pub any_block_length : AnyBlockLength InTwo
 unfolding render_refusal
-any_block_length v trigger k unsustained a b h =
+any_block_length k unsustained v a b h =
     let n = length a + length b in
     let whole = rw length-append at h in
     let first = shorter_at_rate v.sample_rate_hz n _ whole (length a) (omega arith) in
     let second = shorter_at_rate v.sample_rate_hz n _ whole (length b) (omega arith) in
     let q = settings v k n in
-    let t = after_holds (step q n) (Tuned q v.sample_rate_hz) (stays q n _) (length a) _ (begins q v trigger k) in
-    let left = after (step q n) (length a) (cond trigger (triggered (tuned v q) k.accent k.decay) (tuned v q)) in
+    let t = after_holds (step q n) (Tuned q v.sample_rate_hz) (stays q n _) (length a) _ (begins q v) in
+    let left = after (step q n) (length a) (tuned v q) in
     rw (
       length-append,
       whole,
@@ -81,5 +78,4 @@ any_block_length v trigger k unsustained a b h =
     )
 
 pub any_block_lengths : AnyBlockLength InRows
-any_block_lengths v trigger k unsustained =
-    in_rows (λ left. render left false k) (λ left. any_block_length left false k unsustained) _ (any_block_length v trigger k unsustained)
+any_block_lengths k unsustained = in_rows _ (any_block_length k unsustained)

@@ -8,7 +8,6 @@ ghost use Rattle.ieee754.specs.Operations.{abs};
 ghost use Rattle.refusal.specs.Refusal.{answer_number, call_number, call_voice};
 ghost use Rattle.block.specs.Block.{samples, after};
 ghost use Rattle.synthetic_snare_drum.specs.SyntheticSnareDrum as spec;
-ghost use Rattle.synthetic_snare_drum.specs.SyntheticSnareDrum.{render};
 ghost use Rattle.synthetic_snare_drum.specs.Parts.{enveloped};
 
 use block::Turn;
@@ -105,26 +104,7 @@ impl SyntheticSnareDrum {
         }
     }
 
-    // The Rust's parameters: accent and decay are knobs beside trigger, which a sustained block reads too.
-    pub fn render(self, trigger: bool, knobs: Knobs, out: &mut [f32]) -> Result<Self, Refused<Self>>
-        ensures number { call_number result ≡ (render self trigger knobs out.old).number }
-        ensures voice { call_voice result ≡ (render self trigger knobs out.old).state }
-        ensures out { out.new ≡ (render self trigger knobs out.old).out }
-    {
-        let length = knobs
-            .asked(self.sample_rate_hz, out.len())
-            .map_err(|refusal| refusal.of(self))?;
-        let settings = knobs.settings(self, length);
-        let tuned = self.tuned(settings);
-        let voice = if trigger {
-            tuned.triggered(knobs.accent, knobs.decay)
-        } else {
-            tuned
-        };
-        Ok(voice.fill(settings, out))
-    }
-
-    // `render` as two calls: what it does where its trigger is set, and a block without a trigger.
+    // What the Rust's `render` does where its trigger is set, and nothing else.
     pub fn strike(self, accent: f32, decay: f32) -> Result<Self, Refused<Self>>
         ensures number { call_number result ≡ (spec.strike self accent decay).number }
         ensures voice { call_voice result ≡ (spec.strike self accent decay).state }
@@ -133,12 +113,17 @@ impl SyntheticSnareDrum {
         Ok(self.triggered(accent, decay))
     }
 
+    // The Rust's `render` where its trigger is not set. accent stays a knob: a sustained block goes to accent times decay.
     pub fn run(self, knobs: Knobs, out: &mut [f32]) -> Result<Self, Refused<Self>>
         ensures number { call_number result ≡ (spec.run self knobs out.old).number }
         ensures voice { call_voice result ≡ (spec.run self knobs out.old).state }
         ensures out { out.new ≡ (spec.run self knobs out.old).out }
     {
-        self.render(false, knobs, out)
+        let length = knobs
+            .asked(self.sample_rate_hz, out.len())
+            .map_err(|refusal| refusal.of(self))?;
+        let settings = knobs.settings(self, length);
+        Ok(self.tuned(settings).fill(settings, out))
     }
 
     // The filters at the block's frequencies.
@@ -180,7 +165,7 @@ impl SyntheticSnareDrum {
         }
     }
 
-    // The loop over the block. A function by itself, since as a part of `render` it takes more instructions a sample (docs/DECISIONS.md).
+    // The loop over the block. A function by itself, since as a part of `run` it takes more instructions a sample (docs/DECISIONS.md).
     #[inline(never)]
     fn fill(self, settings: Settings, out: &mut [f32]) -> Self
         ensures voice { let n = length out.old in result ≡ after (spec.step settings n) n self }
@@ -265,7 +250,7 @@ impl SyntheticSnareDrum {
 }
 
 impl Knobs {
-    // The questions of `render`, written out for each voice: its own knobs, in the scope's order.
+    // The questions of a run, written out for each voice: its own knobs, in the scope's order.
     #[tactic(auto, unfolding(crate::specs::SyntheticSnareDrum::render_refusal))]
     fn asked(self, sample_rate_hz: f32, samples: usize) -> Result<BlockLength, Refusal>
         ensures number { answer_number result ≡ spec.render_refusal sample_rate_hz self samples }

@@ -14,7 +14,7 @@ use Rattle.cue_sheet.specs.declared.line.Strike.{Strike}
 use Rattle.cue_sheet.specs.declared.walk.CueLines.{CueLines}
 use Rattle.cue_sheet.specs.declared.walk.RefusedAt.{RefusedAt}
 use Rattle.cue_sheet.proofs.Walks.{rest, over, struck}
-use Rattle.track.specs.Track.{Render, Player}
+use Rattle.track.specs.Track.{Calls, Player}
 use Rattle.track.specs.Own.{Own, on_own, owns}
 use Rattle.cue_render.specs.declared.own_track.OwnCue.{OwnCue}
 use Rattle.cue_render.specs.Run.{left, from_next}
@@ -25,15 +25,15 @@ pub all_lines : (head : Head) (sheet : List ℕ) (first : CueLines) → first.re
 unfolding strikes
 all_lines head sheet first behind walk = rw (behind, walk, rest sheet)
 
-module _ {Voice Sets : Type 0} (p : Player Voice) (renders : Sets → Render Voice) where
+module _ {Voice Sets : Type 0} (p : Player Voice) (calls : Sets → Calls Voice) where
   -- a line's own cue, if it says one, and those after it; the same of the closure's answer
   abbrev of_line : Result Strike RefusedAt → List (Own Voice) → List (Own Voice)
-  of_line (Ok s) os = on_own s.start (p.render s.cue) os
+  of_line (Ok s) os = on_own s.start (p.calls s.cue) os
   of_line (Err e) os = os
 
   abbrev of_answer : Option (OwnCue Sets) → List (Own Voice) → List (Own Voice)
   of_answer None os = os
-  of_answer (Some c) os = record { start = c.start; render = renders c.sets } ∷ os
+  of_answer (Some c) os = record { start = c.start; calls = calls c.sets } ∷ os
 
   passed : {s t : CueLines} (line : Result Strike RefusedAt) → Walked s line t → owns p (left s) ≡ of_line line (owns p (left t))
   unfolding owns on_told
@@ -54,7 +54,7 @@ module _ {Voice Sets : Type 0} (p : Player Voice) (renders : Sets → Render Voi
     skipped (line ∷ lines) s t gave none = passed line gave.1 ∙ answers f line None f (none 0) _ ∙ skipped lines gave.0 t gave.2 (λ k. none (suc k))
 
     pub found : (Q : Run walks → OwnCue Sets → Type 0) (s t : CueLines) (r : Option (OwnCue Sets)) → FindsMapped walks g s f r t
-        → SomeRun walks s (λ u. MatchOption r (IsTrue u.whole × AllItemsGive u g f None) (Q u)) → owns p (left s) ≡ from_next renders r (owns p (left t))
+        → SomeRun walks s (λ u. MatchOption r (IsTrue u.whole × AllItemsGive u g f None) (Q u)) → owns p (left s) ≡ from_next calls r (owns p (left t))
     found Q s t None ran runs =
         let d = took runs.0 in
         ap (λ (c : CueLines). owns p (left c)) (sym runs.1)
@@ -63,7 +63,7 @@ module _ {Voice Sets : Type 0} (p : Player Voice) (renders : Sets → Render Voi
     found Q s t (Some c) ran runs = go ran.1 ran.3 ran.5
       where
         go : (o : Option (Result Strike RefusedAt)) → YieldsThen walks s ran.0 o t → MatchOption o (Some c ≡ None) (λ line. (e : F) × Called g ran.2 (line, tt) (Some c) e)
-            → owns p (left s) ≡ from_next renders (Some c) (owns p (left t))
+            → owns p (left s) ≡ from_next calls (Some c) (owns p (left t))
         go None gave stopped = absurd (none-some c (sym stopped))
         go (Some line) gave stopped =
             skipped ran.0 s gave.0 gave.1 (steady _ f (λ x e k. keeps (x, tt) None e k) ran.0 ran.2 ran.4).1

@@ -2,7 +2,6 @@
 use Prim.Native.Nat.{ℕ, ◌-◌, ◌≤◌, ◌<◌}
 use native.Mathlib.Omega.{arith}
 use mathlib.Core.Path.{◌≡◌, refl, sym, ap, ◌∙◌}
-use mathlib.Core.Bool.{true}
 use mathlib.Core.List.{List, [], ◌∷◌, ◌++◌, map, append-nil}
 use mathlib.Core.Option.{Option, none, some}
 use lib.ListN as List
@@ -17,7 +16,7 @@ use Rattle.cue_sheet.specs.Sheet.{strikes}
 use Rattle.cue_sheet.specs.declared.Head.{Head}
 use Rattle.cue_sheet.specs.declared.walk.CueLines.{CueLines}
 use Rattle.track.specs.Mix.{silence, mixed}
-use Rattle.track.specs.Track.{Render, Player, started, track}
+use Rattle.track.specs.Track.{Calls, Player, started, track}
 use Rattle.track.proofs.Mixed.{silence-length, mixed-length, mixed_none, part_length, mixed_part}
 use Rattle.track.proofs.Cues.{CuesIn, cues_of}
 use Rattle.track.specs.Lawful.{Plays, PlaysAt, Lawful}
@@ -37,7 +36,7 @@ module _ {Voice : Type 0} (p : Player Voice) (laws : Lawful p) where
   -- ---- the voice's own cues: from a place on their starts do not fall, none is past the sheet's end, and each plays
   pub OwnIn : ℕ → ℕ → List (Own Voice) → Type 0
   OwnIn length from [] = from ≤ length
-  OwnIn length from (o ∷ os) = (from ≤ o.start) × Plays laws.Ready o.render × OwnIn length o.start os
+  OwnIn length from (o ∷ os) = (from ≤ o.start) × Plays laws.Ready o.calls × OwnIn length o.start os
 
   earlier : (length from to : ℕ) (os : List (Own Voice)) → from ≤ to → OwnIn length to os → OwnIn length from os
   unfolding OwnIn
@@ -47,11 +46,11 @@ module _ {Voice : Type 0} (p : Player Voice) (laws : Lawful p) where
   own_in : (length from : ℕ) (ss : List Strike) → CuesIn length from ss → OwnIn length from (owns p ss)
   unfolding OwnIn CuesIn owns on_own
   own_in length from [] cues = cues
-  own_in length from (s ∷ ss) cues = go (p.render s.cue) (laws.plays s.cue cues.1) (own_in length s.start ss cues.2)
+  own_in length from (s ∷ ss) cues = go (p.calls s.cue) (laws.plays s.cue cues.1) (own_in length s.start ss cues.2)
     where
-      go : (o : Option (Render Voice)) → PlaysAt laws.Ready o → OwnIn length s.start (owns p ss) → OwnIn length from (on_own s.start o (owns p ss))
+      go : (o : Option (Calls Voice)) → PlaysAt laws.Ready o → OwnIn length s.start (owns p ss) → OwnIn length from (on_own s.start o (owns p ss))
       go none plays ih = earlier length from s.start (owns p ss) cues.0 ih
-      go (some r) plays ih = (cues.0, plays, ih)
+      go (some c) plays ih = (cues.0, plays, ih)
 
   -- where the run before them ends
   ends_in : (length from : ℕ) (os : List (Own Voice)) → OwnIn length from os → (from ≤ ends length os) × (ends length os ≤ length)
@@ -60,29 +59,31 @@ module _ {Voice : Type 0} (p : Player Voice) (laws : Lawful p) where
   ends_in length from (o ∷ os) own = let b = ends_in length o.start os own.2 in omega (arith, own.0, b.0, b.1)
 
   -- a run that is rendered into a scratch block and added in place
-  own_turn : (r : Render Voice) → Plays laws.Ready r → (v : Voice) → laws.Ready v → (length from to : ℕ) (os : List (Own Voice))
+  own_turn : (c : Calls Voice) → Plays laws.Ready c → (v : Voice) → laws.Ready v → (length from to : ℕ) (os : List (Own Voice))
       → to ≡ ends length os → from ≤ to → to ≤ length → length ≤ 16384
       → (out scratch : List Float) → List.length out ≡ length → List.length scratch ≡ to - from
-      → let call = r v true scratch in
-      mixed (take from out ++ (mixed (take (to - from) (drop from out)) (map some call.out) ++ drop to out)) (solo length call.state os)
-      ≡ mixed out (solo length v (record { start = from; render = r } ∷ os))
+      → let run = c.run (c.strike v).state scratch in
+      mixed (take from out ++ (mixed (take (to - from) (drop from out)) (map some run.out) ++ drop to out)) (solo length run.state os)
+      ≡ mixed out (solo length v (record { start = from; calls = c } ∷ os))
   unfolding solo solo_from ends
-  own_turn r plays v ready length from to os to_is above below short out scratch room size =
+  own_turn c plays v ready length from to os to_is above below short out scratch room size =
       let n = ends length os - from in
-      let whole = mixed (take (to - from) (drop from out)) (map some (r v true scratch).out) in
-      let rest = solo_from length (r v true scratch).state os in
-      let accepted = plays.accepts v ready true scratch (omega (arith, size)) in
+      let w = (c.strike v).state in
+      let run = c.run w scratch in
+      let whole = mixed (take (to - from) (drop from out)) (map some run.out) in
+      let rest = solo_from length run.state os in
+      let accepted = plays.runs w (plays.struck v ready) scratch (omega (arith, size)) in
       let sized : List.length scratch ≡ List.length (silence n) = size ∙ ap (λ (k : ℕ). k - from) to_is ∙ sym (silence-length n) in
-      let long = length-map (r v true scratch).out some ∙ plays.long v true scratch accepted ∙ size in
+      let long = length-map run.out some ∙ plays.long w scratch accepted ∙ size in
       ap (λ (k : ℕ). mixed (take from out ++ (whole ++ drop to out)) (replicate k none ++ rest)) (sym to_is)
-      ∙ mixed_part out (map some (r v true scratch).out) rest from to above (omega (arith, room)) long
+      ∙ mixed_part out (map some run.out) rest from to above (omega (arith, room)) long
       ∙ ap (λ (call : Call Voice). mixed out (replicate from none ++ (map some call.out ++ solo_from length call.state os)))
-      (plays.fills v true scratch (silence n) sized accepted)
+      (plays.fills w scratch (silence n) sized accepted)
 
-  module _ {Sets : Type 0} (renders : Sets → Render Voice) where
+  module _ {Sets : Type 0} (calls : Sets → Calls Voice) where
     -- the voice's cues that are left, from the next one on, with the lines after it
     abbrev from_here : Rust.Option (OwnCue Sets) → CueLines → List (Own Voice)
-    from_here next lines = from_next renders next (owns p (left lines))
+    from_here next lines = from_next calls next (owns p (left lines))
 
     end_is : (length : ℕ) (next : Rust.Option (OwnCue Sets)) (lines : CueLines) → end_of length next ≡ ends length (from_here next lines)
     unfolding ends
@@ -130,7 +131,7 @@ module _ {Voice : Type 0} (p : Player Voice) (laws : Lawful p) where
         to_is : to ≡ ends head.length (from_here next lines')
         to_is = to-is ∙ end_is head.length next lines'
 
-        plays : Plays laws.Ready (renders c.sets)
+        plays : Plays laws.Ready (calls c.sets)
         unfolding OwnIn
         plays = g.own.1
 
@@ -154,9 +155,16 @@ module _ {Voice : Type 0} (p : Player Voice) (laws : Lawful p) where
               block = length-take-le (to - from) scratch (omega (arith, b.1, g.short, enough));
             }
 
+        -- the cue's strike, and its run over a block
+        abbrev struck : Voice
+        struck = ((calls c.sets).strike v).state
+
+        abbrev ran : List Float → Call Voice
+        ran scratch = (calls c.sets).run struck scratch
+
         pub turn : (scratch : List Float) → List.length scratch ≡ to - from → {v' : Voice} {part out' : List Float}
-            → v' ≡ (renders c.sets v true scratch).state
-            → part ≡ mixed (take (to - from) (drop from out)) (map some (renders c.sets v true scratch).out)
+            → v' ≡ (ran scratch).state
+            → part ≡ mixed (take (to - from) (drop from out)) (map some (ran scratch).out)
             → out' ≡ take from out ++ (part ++ drop to out) → Passing sheet head out₀ v' next lines' out'
         turn scratch size {v'} {part} {out'} after added written =
             let b = bounds in
@@ -167,9 +175,9 @@ module _ {Voice : Type 0} (p : Player Voice) (laws : Lawful p) where
                   let part-long = ap List.length added ∙ mixed-length _ _ ∙ part_length out from to b.0 (omega (arith, b.1, g.room)) in
                   rw (written, length-append, length-append, length-drop, length-take-le from out (omega (arith, b.0, b.1, g.room)), part-long)
                   (omega (arith, b.0, b.1, g.room));
-              ready = rw after (plays.stays v g.ready true scratch);
+              ready = rw after (plays.stays struck (plays.struck v g.ready) scratch);
               to_add =
                   rw (written, added, after)
-                  (own_turn (renders c.sets) plays v g.ready head.length from to (from_here next lines') to_is b.0 b.1 g.short out scratch g.room size
+                  (own_turn (calls c.sets) plays v g.ready head.length from to (from_here next lines') to_is b.0 b.1 g.short out scratch g.room size
                   ∙ rw next-is at g.to_add);
             }

@@ -1,35 +1,30 @@
 -- The four voices may be played by a sheet: with knobs that have passed their questions they refuse no call, and a block in two is the whole block.
-use Prim.Native.Nat.{ℕ, zero, suc}
 use Prim.Native.Char.{code}
 use mathlib.Core.Path.{◌≡◌, refl, ap, ◌∙◌}
-use mathlib.Core.Bool.{Bool, true, false, cond}
-use mathlib.Core.List.{List}
+use mathlib.Core.Bool.{Bool, true}
 use lib.Dec.{eqb}
 use lib.ListN.{length}
-use lib.Ieee.{Float, le, round}
+use lib.Ieee.{le, round}
 use borrow.Author.Tests.{le-leb}
 use Rattle.ieee754.specs.Single.{decimal}
-use Rattle.block.specs.Block as Block
-use Rattle.block.proofs.Blocks.{samples-length, scan-length, after_keeps}
-use Rattle.refusal.specs.Refusal.{unless_refused, is_sample_rate, is_unit, within}
+use Rattle.block.proofs.Blocks.{samples-length, scan-length}
+use Rattle.refusal.specs.Refusal.{is_sample_rate, is_unit, within, strike_refusal}
 use Rattle.analog_bass_drum.specs.AnalogBassDrum as AnalogBassDrum
 use Rattle.analog_bass_drum.proofs.AnyBlockLength as BassBlocks
 use Rattle.analog_snare_drum.specs.AnalogSnareDrum as AnalogSnareDrum
 use Rattle.analog_snare_drum.proofs.AnyBlockLength as SnareBlocks
 use Rattle.synthetic_snare_drum.specs.SyntheticSnareDrum as SyntheticSnareDrum
-use Rattle.synthetic_snare_drum.specs.declared.SyntheticSnareDrum.{SyntheticSnareDrum as SyntheticSnareVoice}
-use Rattle.synthetic_snare_drum.specs.declared.Knobs.{Knobs as SyntheticSnareKnobs}
 use Rattle.synthetic_snare_drum.proofs.AnyBlockLength as SyntheticSnareBlocks
+use Rattle.synthetic_snare_drum.proofs.Rate as SyntheticSnareRate
 use Rattle.hihat.specs.Hihat as Hihat
 use Rattle.hihat.specs.declared.VcaType.TheVariants.{Swing}
 use Rattle.hihat.proofs.AnyBlockLength as HihatBlocks
-use Rattle.hihat.proofs.Rate.{rate_kept}
+use Rattle.hihat.proofs.Rate as HihatRate
 use Rattle.cue_sheet.specs.declared.line.Cue.{Cue}
 use Rattle.cue_sheet.specs.declared.line.Cue.TheVariants.{Bass, Snare, SyntheticSnare, Hihat as HihatCue}
 use Rattle.cue_sheet.specs.Knobs.{KnobsOf}
-use Rattle.track.specs.Track.{is_own}
 use Rattle.track.specs.Letters.{letter_of}
-use Rattle.track.specs.Lawful.{PlaysAt, Tested}
+use Rattle.track.specs.Lawful.{PlaysAt, Tested, is_own}
 use Rattle.cue_render.specs.Voices.{bass_cue, bass, snare_cue, snare, synthetic_snare_cue, synthetic_snare, hihat_cue, hihat}
 
 -- ---- b
@@ -38,13 +33,15 @@ unfolding is_unit within le round
 zero_unit = refl
 
 bass_plays : (cue : Cue) → KnobsOf cue → PlaysAt (λ v. ◌≡◌ {A = Bool} true true) (bass_cue cue)
-unfolding bass_cue AnalogBassDrum.render_refusal AnalogBassDrum.knobs_refusal
+unfolding bass_cue AnalogBassDrum.run_refusal AnalogBassDrum.knobs_refusal
 bass_plays (Bass accent f0 tone decay attack_fm_amount) q = record {
-  accepts = λ v ready trigger out short. rw (le-leb (length out) 16384 short, q.frequency, q.accent_in, q.a_in, q.decay_in, q.c_in, zero_unit);
-  stays = λ v ready trigger out. refl;
-  in_two = λ v trigger. BassBlocks.any_block_length v trigger accent _;
-  fills = λ v trigger out out' e h. rw (e, rw e at h);
-  long = λ v trigger out h. rw (h, samples-length);
+  strikes = λ v ready. rw q.accent_in;
+  struck = λ v ready. refl;
+  runs = λ v ready out short. rw (le-leb (length out) 16384 short, q.frequency, q.a_in, q.decay_in, q.c_in, zero_unit);
+  stays = λ v ready out. refl;
+  in_two = BassBlocks.any_block_length _;
+  fills = λ v out out' e h. rw (e, rw e at h);
+  long = λ v out h. rw (h, samples-length);
 }
 bass_plays (Snare accent f0 tone decay snappy) q = tt
 bass_plays (SyntheticSnare accent f0 fm_amount decay snappy) q = tt
@@ -63,13 +60,15 @@ bass_lawful =
 
 -- ---- s
 snare_plays : (cue : Cue) → KnobsOf cue → PlaysAt (λ v. ◌≡◌ {A = Bool} true true) (snare_cue cue)
-unfolding snare_cue AnalogSnareDrum.render_refusal AnalogSnareDrum.knobs_refusal
+unfolding snare_cue AnalogSnareDrum.run_refusal AnalogSnareDrum.knobs_refusal
 snare_plays (Snare accent f0 tone decay snappy) q = record {
-  accepts = λ v ready trigger out short. rw (le-leb (length out) 16384 short, q.frequency, q.accent_in, q.a_in, q.decay_in, q.c_in);
-  stays = λ v ready trigger out. refl;
-  in_two = λ v trigger. SnareBlocks.any_block_length v trigger accent _;
-  fills = λ v trigger out out' e h. rw (e, rw e at h);
-  long = λ v trigger out h. rw (h, samples-length);
+  strikes = λ v ready. rw q.accent_in;
+  struck = λ v ready. refl;
+  runs = λ v ready out short. rw (le-leb (length out) 16384 short, q.frequency, q.a_in, q.decay_in, q.c_in);
+  stays = λ v ready out. refl;
+  in_two = SnareBlocks.any_block_length _;
+  fills = λ v out out' e h. rw (e, rw e at h);
+  long = λ v out h. rw (h, samples-length);
 }
 snare_plays (Bass accent f0 tone decay attack_fm_amount) q = tt
 snare_plays (SyntheticSnare accent f0 fm_amount decay snappy) q = tt
@@ -87,28 +86,16 @@ snare_lawful =
     record { ready = λ v. true; init-accepted = λ rate h. rw h; init_ready = λ rate h. refl; plays = snare_plays; own = snare_own }
 
 -- ---- y, which stores its rate and keeps it
-kept : (v : SyntheticSnareVoice) (k : SyntheticSnareKnobs) (m n : ℕ) (t : Bool)
-    → let b = SyntheticSnareDrum.settings v k m in
-    let w = SyntheticSnareDrum.tuned v b in
-    let begun = cond t (SyntheticSnareDrum.triggered w k.accent k.decay) w in
-    (unless_refused n (Block.after (SyntheticSnareDrum.step b m) m begun) v).sample_rate_hz ≡ v.sample_rate_hz
-unfolding SyntheticSnareDrum.tuned SyntheticSnareDrum.triggered SyntheticSnareDrum.step
-kept v k m zero true = rw (after_keeps (SyntheticSnareDrum.step (SyntheticSnareDrum.settings v k m) m) (λ w. w.sample_rate_hz) (λ w. refl))
-kept v k m zero false = rw (after_keeps (SyntheticSnareDrum.step (SyntheticSnareDrum.settings v k m) m) (λ w. w.sample_rate_hz) (λ w. refl))
-kept v k m (suc n) t = refl
-
-synthetic_rate : (v : SyntheticSnareVoice) (trigger : Bool) (k : SyntheticSnareKnobs) (out : List Float)
-    → (SyntheticSnareDrum.render v trigger k out).state.sample_rate_hz ≡ v.sample_rate_hz
-synthetic_rate v trigger k out = kept v k (length out) (SyntheticSnareDrum.render_refusal v.sample_rate_hz k (length out)) trigger
-
 synthetic_snare_plays : (cue : Cue) → KnobsOf cue → PlaysAt (λ v. is_sample_rate v.sample_rate_hz ≡ true) (synthetic_snare_cue cue)
-unfolding synthetic_snare_cue SyntheticSnareDrum.render_refusal
+unfolding synthetic_snare_cue SyntheticSnareDrum.render_refusal strike_refusal
 synthetic_snare_plays (SyntheticSnare accent f0 fm_amount decay snappy) q = record {
-  accepts = λ v ready trigger out short. rw (ready, le-leb (length out) 16384 short, q.frequency, q.accent_in, q.a_in, q.decay_in, q.c_in);
-  stays = λ v ready trigger out. ap is_sample_rate (synthetic_rate v trigger _ out) ∙ ready;
-  in_two = λ v trigger. SyntheticSnareBlocks.any_block_length v trigger _ refl;
-  fills = λ v trigger out out' e h. rw (e, rw e at h);
-  long = λ v trigger out h. rw (h, samples-length);
+  strikes = λ v ready. rw (ready, q.accent_in, q.decay_in);
+  struck = λ v ready. ap is_sample_rate (SyntheticSnareRate.strike_keeps_rate v accent decay) ∙ ready;
+  runs = λ v ready out short. rw (ready, le-leb (length out) 16384 short, q.frequency, q.accent_in, q.a_in, q.decay_in, q.c_in);
+  stays = λ v ready out. ap is_sample_rate (SyntheticSnareRate.run_keeps_rate v _ out) ∙ ready;
+  in_two = SyntheticSnareBlocks.any_block_length _ refl;
+  fills = λ v out out' e h. rw (e, rw e at h);
+  long = λ v out h. rw (h, samples-length);
 }
 synthetic_snare_plays (Bass accent f0 tone decay attack_fm_amount) q = tt
 synthetic_snare_plays (Snare accent f0 tone decay snappy) q = tt
@@ -133,13 +120,15 @@ synthetic_snare_lawful = record {
 
 -- ---- h, which does the same
 hihat_plays : (cue : Cue) → KnobsOf cue → PlaysAt (λ v. is_sample_rate v.sample_rate ≡ true) (hihat_cue cue)
-unfolding hihat_cue Hihat.render_refusal Hihat.passes
+unfolding hihat_cue Hihat.render_refusal Hihat.passes strike_refusal
 hihat_plays (HihatCue accent f0 tone decay noisiness) q = record {
-  accepts = λ v ready trigger out short. rw (ready, le-leb (length out) 16384 short, q.frequency, q.accent_in, q.a_in, q.decay_in, q.c_in);
-  stays = λ v ready trigger out. ap is_sample_rate (rate_kept v trigger Swing _ out) ∙ ready;
-  in_two = λ v trigger. HihatBlocks.any_block_length v trigger Swing _ refl;
-  fills = λ v trigger out out' e h. rw (e, rw e at h);
-  long = λ v trigger out h. rw (h, scan-length, scan-length, scan-length, scan-length, samples-length);
+  strikes = λ v ready. rw (ready, q.accent_in, q.decay_in);
+  struck = λ v ready. ap is_sample_rate (HihatRate.strike_keeps_rate v accent decay) ∙ ready;
+  runs = λ v ready out short. rw (ready, le-leb (length out) 16384 short, q.frequency, q.accent_in, q.a_in, q.decay_in, q.c_in);
+  stays = λ v ready out. ap is_sample_rate (HihatRate.run_keeps_rate v Swing _ out) ∙ ready;
+  in_two = HihatBlocks.any_block_length Swing _ refl;
+  fills = λ v out out' e h. rw (e, rw e at h);
+  long = λ v out h. rw (h, scan-length, scan-length, scan-length, scan-length, samples-length);
 }
 hihat_plays (Bass accent f0 tone decay attack_fm_amount) q = tt
 hihat_plays (Snare accent f0 tone decay snappy) q = tt

@@ -8,7 +8,7 @@ use Rattle.cue_sheet.specs.declared.line.Strike.{Strike}
 use Rattle.cue_sheet.specs.Sheet.{strikes_from}
 use Rattle.cue_sheet.specs.declared.Head.{Head}
 use Rattle.cue_sheet.specs.declared.walk.CueLines.{CueLines}
-use Rattle.track.specs.Track.{Render}
+use Rattle.track.specs.Track.{Calls}
 use Rattle.track.specs.Own.{Own}
 use Rattle.cue_render.specs.declared.own_track.OwnCue.{OwnCue}
 
@@ -16,10 +16,10 @@ use Rattle.cue_render.specs.declared.own_track.OwnCue.{OwnCue}
 abbrev pub left : CueLines → List Strike
 left c = strikes_from c.walk (lines c.rest.now)
 
--- a voice's own cues, the next of them and then those after it: where there is no next, none is left. `renders` is the voice's `render` with what a cue sets
-abbrev pub from_next : {Voice Sets : Type 0} → (Sets → Render Voice) → Option (OwnCue Sets) → List (Own Voice) → List (Own Voice)
-from_next renders None os = []
-from_next renders (Some c) os = record { start = c.start; render = renders c.sets } ∷ os
+-- a voice's own cues, the next of them and then those after it: where there is no next, none is left. `calls` is the voice's calls with what a cue sets
+abbrev pub from_next : {Voice Sets : Type 0} → (Sets → Calls Voice) → Option (OwnCue Sets) → List (Own Voice) → List (Own Voice)
+from_next calls None os = []
+from_next calls (Some c) os = record { start = c.start; calls = calls c.sets } ∷ os
 
 -- the end of the run before a cue, which is the sheet's end where there is none
 abbrev pub end_of : {Sets : Type 0} → ℕ → Option (OwnCue Sets) → ℕ

@@ -14,60 +14,69 @@ use Rattle.hihat.specs.declared.Hihat.{Hihat as HihatVoice}
 use Rattle.hihat.specs.declared.VcaType.TheVariants.{Swing}
 use Rattle.cue_sheet.specs.declared.line.Cue.{Cue}
 use Rattle.cue_sheet.specs.declared.line.Cue.TheVariants.{Bass, Snare, SyntheticSnare, Hihat as HihatCue}
-use Rattle.track.specs.Track.{Render, Player}
+use Rattle.track.specs.Track.{Calls, Player}
 
 -- b: self_fm_amount is 0.0
-unfoldable pub bass_cue : Cue → Option (Render BassVoice)
+unfoldable pub bass_cue : Cue → Option (Calls BassVoice)
 bass_cue (Bass accent f0 tone decay attack_fm_amount) =
-    some (λ v trigger. AnalogBassDrum.render v trigger accent
-    (record { f0 = f0; tone = tone; decay = decay; attack_fm_amount = attack_fm_amount; self_fm_amount = decimal 0 0 }))
+    some (record {
+      strike = λ v. AnalogBassDrum.strike v accent;
+      run = λ v. AnalogBassDrum.run v (record { f0 = f0; tone = tone; decay = decay; attack_fm_amount = attack_fm_amount; self_fm_amount = decimal 0 0 });
+    })
 bass_cue (Snare accent f0 tone decay snappy) = none
 bass_cue (SyntheticSnare accent f0 fm_amount decay snappy) = none
 bass_cue (HihatCue accent f0 tone decay noisiness) = none
 
 abbrev pub bass : Player BassVoice
-bass = record { letter = code "b"; init = AnalogBassDrum.init AnalogBassDrum.ZERO; render = bass_cue }
+bass = record { letter = code "b"; init = AnalogBassDrum.init AnalogBassDrum.ZERO; calls = bass_cue }
 
 -- s
-unfoldable pub snare_cue : Cue → Option (Render SnareVoice)
+unfoldable pub snare_cue : Cue → Option (Calls SnareVoice)
 snare_cue (Bass accent f0 tone decay attack_fm_amount) = none
 snare_cue (Snare accent f0 tone decay snappy) =
-    some (λ v trigger. AnalogSnareDrum.render v trigger accent (record { f0 = f0; tone = tone; decay = decay; snappy = snappy }))
+    some (record {
+      strike = λ v. AnalogSnareDrum.strike v accent;
+      run = λ v. AnalogSnareDrum.run v (record { f0 = f0; tone = tone; decay = decay; snappy = snappy });
+    })
 snare_cue (SyntheticSnare accent f0 fm_amount decay snappy) = none
 snare_cue (HihatCue accent f0 tone decay noisiness) = none
 
 abbrev pub snare : Player SnareVoice
-snare = record { letter = code "s"; init = AnalogSnareDrum.init AnalogSnareDrum.ZERO; render = snare_cue }
+snare = record { letter = code "s"; init = AnalogSnareDrum.init AnalogSnareDrum.ZERO; calls = snare_cue }
 
 -- y: it does not sustain
-unfoldable pub synthetic_snare_cue : Cue → Option (Render SyntheticSnareVoice)
+unfoldable pub synthetic_snare_cue : Cue → Option (Calls SyntheticSnareVoice)
 synthetic_snare_cue (Bass accent f0 tone decay attack_fm_amount) = none
 synthetic_snare_cue (Snare accent f0 tone decay snappy) = none
 synthetic_snare_cue (SyntheticSnare accent f0 fm_amount decay snappy) =
-    some (λ v trigger. SyntheticSnareDrum.render v trigger
-    (record { sustain = false; accent = accent; f0 = f0; fm_amount = fm_amount; decay = decay; snappy = snappy }))
+    some (record {
+      strike = λ v. SyntheticSnareDrum.strike v accent decay;
+      run = λ v. SyntheticSnareDrum.run v (record { sustain = false; accent = accent; f0 = f0; fm_amount = fm_amount; decay = decay; snappy = snappy });
+    })
 synthetic_snare_cue (HihatCue accent f0 tone decay noisiness) = none
 
 abbrev pub synthetic_snare : Player SyntheticSnareVoice
-synthetic_snare = record { letter = code "y"; init = SyntheticSnareDrum.init SyntheticSnareDrum.ZERO; render = synthetic_snare_cue }
+synthetic_snare = record { letter = code "y"; init = SyntheticSnareDrum.init SyntheticSnareDrum.ZERO; calls = synthetic_snare_cue }
 
 -- h: Swing, with resonance, without a two-stage envelope; it does not sustain
-unfoldable pub hihat_cue : Cue → Option (Render HihatVoice)
+unfoldable pub hihat_cue : Cue → Option (Calls HihatVoice)
 hihat_cue (Bass accent f0 tone decay attack_fm_amount) = none
 hihat_cue (Snare accent f0 tone decay snappy) = none
 hihat_cue (SyntheticSnare accent f0 fm_amount decay snappy) = none
 hihat_cue (HihatCue accent f0 tone decay noisiness) =
-    some (λ v trigger. Hihat.render v trigger Swing
-    (record {
-      sustain = false;
-      accent = accent;
-      f0 = f0;
-      tone = tone;
-      decay = decay;
-      noisiness = noisiness;
-      resonance = true;
-      two_stage_envelope = false;
-    }))
+    some (record {
+      strike = λ v. Hihat.strike v accent decay;
+      run = λ v. Hihat.run v Swing (record {
+        sustain = false;
+        accent = accent;
+        f0 = f0;
+        tone = tone;
+        decay = decay;
+        noisiness = noisiness;
+        resonance = true;
+        two_stage_envelope = false;
+      });
+    })
 
 abbrev pub hihat : Player HihatVoice
-hihat = record { letter = code "h"; init = Hihat.init Hihat.ZERO; render = hihat_cue }
+hihat = record { letter = code "h"; init = Hihat.init Hihat.ZERO; calls = hihat_cue }

@@ -13,7 +13,7 @@ impl Drum for AnalogBassDrum {
 
     ghost player = { bass };
 
-    ghost renders = { λ sets v trigger. spec.render v trigger sets.0 sets.1 };
+    ghost calls = { λ sets. record { strike = λ v. spec.strike v sets.0; run = λ v. spec.run v sets.1 } };
 
     fn begin(sample_rate_hz: f32) -> Self {
         number_and_voice(AnalogBassDrum::ZERO.init(sample_rate_hz)).1
@@ -43,6 +43,7 @@ impl Drum for AnalogBassDrum {
     }
 
     fn play(self, (accent, knobs): (f32, Knobs), out: &mut [f32]) -> Self {
-        number_and_voice(self.render(true, accent, knobs, out)).1
+        let struck = number_and_voice(self.strike(accent)).1;
+        number_and_voice(struck.run(knobs, out)).1
     }
 }

@@ -13,7 +13,7 @@ impl Drum for Hihat {
 
     ghost player = { hihat };
 
-    ghost renders = { λ knobs v trigger. spec.render v trigger Swing knobs };
+    ghost calls = { λ knobs. record { strike = λ v. spec.strike v knobs.accent knobs.decay; run = λ v. spec.run v Swing knobs } };
 
     fn begin(sample_rate_hz: f32) -> Self {
         number_and_voice(Hihat::ZERO.init(sample_rate_hz)).1
@@ -43,6 +43,7 @@ impl Drum for Hihat {
     }
 
     fn play(self, knobs: Knobs, out: &mut [f32]) -> Self {
-        number_and_voice(self.render(true, VcaType::Swing, knobs, out)).1
+        let struck = number_and_voice(self.strike(knobs.accent, knobs.decay)).1;
+        number_and_voice(struck.run(VcaType::Swing, knobs, out)).1
     }
 }

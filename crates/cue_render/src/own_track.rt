@@ -41,7 +41,7 @@ pub(crate) fn add_track<D: Drum>(sheet: &[u8], head: Head, out: &mut [f32], scra
 
 // The voice's next cue among the lines that are left, and the lines after it.
 fn next_of<D: Drum>(lines: &mut CueLines) -> Option<OwnCue<D::Sets>>
-    ensures { owns D.player (left lines.old) ≡ from_next D.renders result (owns D.player (left lines.new)) }
+    ensures { owns D.player (left lines.old) ≡ from_next D.calls result (owns D.player (left lines.new)) }
 {
     lines.find_map(|line| {
         let Strike { start, cue } = line.ok()?;

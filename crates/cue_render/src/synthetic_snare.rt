@@ -12,7 +12,7 @@ impl Drum for SyntheticSnareDrum {
 
     ghost player = { synthetic_snare };
 
-    ghost renders = { λ knobs v trigger. spec.render v trigger knobs };
+    ghost calls = { λ knobs. record { strike = λ v. spec.strike v knobs.accent knobs.decay; run = λ v. spec.run v knobs } };
 
     fn begin(sample_rate_hz: f32) -> Self {
         number_and_voice(SyntheticSnareDrum::ZERO.init(sample_rate_hz)).1
@@ -40,6 +40,7 @@ impl Drum for SyntheticSnareDrum {
     }
 
     fn play(self, knobs: Knobs, out: &mut [f32]) -> Self {
-        number_and_voice(self.render(true, knobs, out)).1
+        let struck = number_and_voice(self.strike(knobs.accent, knobs.decay)).1;
+        number_and_voice(struck.run(knobs, out)).1
     }
 }

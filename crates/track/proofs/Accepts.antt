@@ -2,7 +2,7 @@
 use Prim.Native.Nat.{ℕ, ◌-◌, ◌^◌, ◌≤◌}
 use native.Mathlib.Omega.{arith}
 use mathlib.Core.Path.{◌≡◌}
-use mathlib.Core.Bool.{Bool, true, false}
+use mathlib.Core.Bool.{true, false}
 use mathlib.Core.List.{List, [], ◌∷◌}
 use mathlib.Core.Option.{Option, none, some, Option-elim}
 use lib.IntN.{pos}
@@ -15,7 +15,7 @@ use Rattle.cue_sheet.specs.declared.line.Strike.{Strike}
 use Rattle.cue_sheet.specs.declared.Head.{Head}
 use Rattle.cue_sheet.proofs.FirstLines.{HeadIn}
 use Rattle.track.specs.Mix.{silence}
-use Rattle.track.specs.Track.{Render, Player, until, latest, called, left, segments_from, Accepted, NoneRefused}
+use Rattle.track.specs.Track.{Calls, Player, until, latest, struck, ran, left, segments_from, NotRefused, Accepted, NoneRefused}
 use Rattle.track.proofs.Mixed.{silence-length}
 use Rattle.track.specs.Lawful.{PlaysAt, Lawful}
 use Rattle.track.proofs.Cues.{CuesIn, until_in}
@@ -31,32 +31,39 @@ sheet-rate head h = rw (whole_le 16000 head.rate h.lowest (omega (arith, h.highe
 
 -- ---- the calls
 module _ {Voice : Type 0} (p : Player Voice) (laws : Lawful p) (length : ℕ) (short : length ≤ 16384) where
-  latest_plays : (own before : Option (Render Voice)) → PlaysAt laws.Ready own → PlaysAt laws.Ready before → PlaysAt laws.Ready (latest own before)
+  latest_plays : (own before : Option (Calls Voice)) → PlaysAt laws.Ready own → PlaysAt laws.Ready before → PlaysAt laws.Ready (latest own before)
   unfolding latest
   latest_plays none before h g = g
-  latest_plays (some render) before h g = h
+  latest_plays (some calls) before h g = h
 
-  call-accepted : (knobs : Option (Render Voice)) → PlaysAt laws.Ready knobs → (v : Voice) → laws.Ready v → (trigger : Bool) (n : ℕ) → n ≤ 16384
-      → Option-elim (called knobs v trigger n) (Unit {0}) (λ call. call.number ≡ 0) × laws.Ready (left v (called knobs v trigger n))
-  unfolding called left Option-elim
-  call-accepted none plays v ready trigger n h = (tt, ready)
-  call-accepted (some render) plays v ready trigger n h = (plays.accepts v ready trigger (silence n) (rw silence-length h), plays.stays v ready trigger (silence n))
+  strike_accepted : (own : Option (Calls Voice)) → PlaysAt laws.Ready own → (v : Voice) → laws.Ready v → NotRefused (struck own v) × laws.Ready (left v (struck own v))
+  unfolding struck left Option-elim
+  strike_accepted none plays v ready = (tt, ready)
+  strike_accepted (some calls) plays v ready = (plays.strikes v ready, plays.struck v ready)
 
-  accepted_from : (from : ℕ) (ss : List Strike) → CuesIn length from ss → (before : Option (Render Voice)) → PlaysAt laws.Ready before
+  run_accepted : (knobs : Option (Calls Voice)) → PlaysAt laws.Ready knobs → (v : Voice) → laws.Ready v → (n : ℕ) → n ≤ 16384
+      → NotRefused (ran knobs v n) × laws.Ready (left v (ran knobs v n))
+  unfolding ran left Option-elim
+  run_accepted none plays v ready n h = (tt, ready)
+  run_accepted (some calls) plays v ready n h = (plays.runs v ready (silence n) (rw silence-length h), plays.stays v ready (silence n))
+
+  accepted_from : (from : ℕ) (ss : List Strike) → CuesIn length from ss → (before : Option (Calls Voice)) → PlaysAt laws.Ready before
       → (v : Voice) → laws.Ready v → Accepted (segments_from p length before v ss)
   unfolding CuesIn segments_from Accepted
   accepted_from from [] cues before plays v ready = tt
   accepted_from from (s ∷ ss) cues before plays v ready =
-      let own = p.render s.cue in
-      let knobs = latest_plays own before (laws.plays s.cue cues.1) plays in
+      let own = p.calls s.cue in
+      let own_plays = laws.plays s.cue cues.1 in
       let bounds = until_in length s.start ss cues.2 in
-      let call = call-accepted (latest own before) knobs v ready _ (until length ss - s.start) (omega (arith, bounds.1)) in
-      (call.0, accepted_from s.start ss cues.2 (latest own before) knobs _ call.1)
+      let strike = strike_accepted own own_plays v ready in
+      let knobs = latest_plays own before own_plays plays in
+      let run = run_accepted (latest own before) knobs (left v (struck own v)) strike.1 (until length ss - s.start) (omega (arith, bounds.1)) in
+      (strike.0, run.0, accepted_from s.start ss cues.2 (latest own before) knobs _ run.1)
 
 pub none_refused : {Voice : Type 0} (p : Player Voice) → Lawful p → (head : Head) → is_sample_rate (of_int binary32 (pos head.rate)) ≡ true → head.length ≤ 16384
     → (ss : List Strike) → CuesIn head.length 0 ss → NoneRefused p head ss
 unfolding Accepted Option-elim
 none_refused p laws head rate short ss cues = record {
   init = laws.init-accepted _ rate;
-  calls = (tt, accepted_from p laws head.length short 0 ss cues none tt _ (laws.init_ready _ rate));
+  calls = (tt, tt, accepted_from p laws head.length short 0 ss cues none tt _ (laws.init_ready _ rate));
 }

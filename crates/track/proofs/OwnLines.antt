@@ -22,10 +22,10 @@ use Rattle.cue_sheet.specs.declared.voice.Voice.TheVariants.{Bass, Snare, Synthe
 use Rattle.cue_sheet.proofs.Fields.{voice-read}
 use Rattle.cue_sheet.proofs.Questions.{cue-passed}
 use Rattle.cue_sheet.proofs.FirstLines.{accepted_head, accepted-lines}
-use Rattle.track.specs.Track.{Render, Player, is_own, started, track}
+use Rattle.track.specs.Track.{Calls, Player, started, track}
 use Rattle.track.specs.Letters.{letter_of}
 use Rattle.track.specs.OwnLines.{lines_of, cue_lines, OwnLinesOnly}
-use Rattle.track.specs.Lawful.{Lawful}
+use Rattle.track.specs.Lawful.{is_own, Lawful}
 use Rattle.track.proofs.Cues.{cues_of}
 use Rattle.track.proofs.Accepts.{sheet-rate}
 use Rattle.track.specs.Own.{Own, on_own, owns, solo}
@@ -45,22 +45,22 @@ letter-read line {f} e = go (letter (field 1 (body line))) f.voice (voice-read l
 -- ---- the cues that a voice's lines stand for, each line read by itself
 owns_of : {Voice : Type 0} → Player Voice → List (List ℕ) → List (Own Voice)
 owns_of p [] = []
-owns_of p (line ∷ ls) = let os = owns_of p ls in option_map_or (λ f. on_own f.start (p.render (cue_of f)) os) (read_fields line) os
+owns_of p (line ∷ ls) = let os = owns_of p ls in option_map_or (λ f. on_own f.start (p.calls (cue_of f)) os) (read_fields line) os
 
 module _ {Voice : Type 0} (p : Player Voice) (laws : Lawful p) where
   -- a line of another voice is no cue of this one
   line_owns : (line : List ℕ) {f : _} → read_fields line ≡ Some f → (ls : List (List ℕ))
-      → on_own f.start (p.render (cue_of f)) (owns_of p (lines_of p.letter ls)) ≡ owns_of p (lines_of p.letter (line ∷ ls))
+      → on_own f.start (p.calls (cue_of f)) (owns_of p (lines_of p.letter ls)) ≡ owns_of p (lines_of p.letter (line ∷ ls))
   unfolding lines_of owns_of on_own is_own
   line_owns line {f} formed ls =
-      go (p.render (cue_of f)) refl
+      go (p.calls (cue_of f)) refl
       ∙ ap (λ (own : Bool). owns_of p (cond own (line ∷ lines_of p.letter ls) (lines_of p.letter ls)))
       (laws.own (cue_of f) ∙ ap (λ (x : ℕ). eqb x p.letter) (letter-read line formed))
     where
-      go : (o : Option (Render Voice)) → p.render (cue_of f) ≡ o
+      go : (o : Option (Calls Voice)) → p.calls (cue_of f) ≡ o
           → on_own f.start o (owns_of p (lines_of p.letter ls)) ≡ owns_of p (cond (is_own o) (line ∷ lines_of p.letter ls) (lines_of p.letter ls))
       go none e = refl
-      go (some render) e = rw (formed, e)
+      go (some calls) e = rw (formed, e)
 
   -- the cues of an accepted sheet's lines
   lines_own : (w : Walk) (ls : List (List ℕ)) {head : Head} {cues : ℕ} → judge_from w ls ≡ accepted head cues → owns p (strikes_from w ls) ≡ owns_of p (lines_of p.letter ls)
@@ -73,7 +73,7 @@ module _ {Voice : Type 0} (p : Player Voice) (laws : Lawful p) where
           → owns p (on_told x (λ _ strikes. strikes) ◌∷◌ (strikes_from (next w line) ls)) ≡ owns_of p (lines_of p.letter (line ∷ ls))
       go (says s) e h ih =
           let q = cue-passed w line e in
-          ap₂ (λ (t : Strike) (os : List (Own Voice)). on_own t.start (p.render t.cue) os) q.read (ih h) ∙ line_owns line q.formed ls
+          ap₂ (λ (t : Strike) (os : List (Own Voice)). on_own t.start (p.calls t.cue) os) q.read (ih h) ∙ line_owns line q.formed ls
       go (refused n) e h ih = let z : ◌≡◌ {A = ℕ} 0 1 = cc in absurd (omega arith)
 
   -- ---- the theorem

@@ -6,4 +6,4 @@ use Rattle.cue_render.proofs.own_track.next_of.Goals as goal
 
 pub returns : goal.returns
 unfolding on_own
-returns g c = found g.D.Drum.player g.D.Drum.renders _ _ (λ a r e k. search rules) (λ e line r e' k os. search rules) _ _ _ _ c.find_map.ensures.ran c.find_map.ensures.runs
+returns g c = found g.D.Drum.player g.D.Drum.calls _ _ (λ a r e k. search rules) (λ e line r e' k os. search rules) _ _ _ _ c.find_map.ensures.ran c.find_map.ensures.runs

@@ -8,14 +8,14 @@
 #include <string.h>
 #include <ucontext.h>
 
-enum { BYTES = 1 << 18, PLACES = 16384, FLAGS = 32 };
+enum { BYTES = 1 << 18, PLACES = 16384, FLAGS = 16 };
 
 static unsigned char stack[BYTES];
 static ucontext_t here, there;
 
 // What the calls are given. The flags are set by `most`.
 static float buffer[PLACES], input[PLACES];
-static bool trigger, linear;
+static bool linear;
 static bechullpi_one_pole one_pole;
 static bechullpi_svf svf;
 static bechullpi_parameter_interpolator interpolator;
@@ -89,22 +89,18 @@ static size_t sheet_bytes;
 #define VOICES(CALL) \
     CALL(analog_bass_drum_zero, ()) \
     CALL(analog_bass_drum_init, (bass, 48000.0f)) \
-    CALL(analog_bass_drum_render, (bass, trigger, 0.9f, bass_knobs, buffer, PLACES)) \
     CALL(analog_bass_drum_strike, (bass, 0.9f)) \
     CALL(analog_bass_drum_run, (bass, bass_knobs, buffer, PLACES)) \
     CALL(analog_snare_drum_zero, ()) \
     CALL(analog_snare_drum_init, (snare, 48000.0f)) \
-    CALL(analog_snare_drum_render, (snare, trigger, 0.9f, snare_knobs, buffer, PLACES)) \
     CALL(analog_snare_drum_strike, (snare, 0.9f)) \
     CALL(analog_snare_drum_run, (snare, snare_knobs, buffer, PLACES)) \
     CALL(synthetic_snare_drum_zero, ()) \
     CALL(synthetic_snare_drum_init, (synthetic_snare, 48000.0f)) \
-    CALL(synthetic_snare_drum_render, (synthetic_snare, trigger, synthetic_snare_knobs, buffer, PLACES)) \
     CALL(synthetic_snare_drum_strike, (synthetic_snare, 0.9f, 0.5f)) \
     CALL(synthetic_snare_drum_run, (synthetic_snare, synthetic_snare_knobs, buffer, PLACES)) \
     CALL(hihat_zero, ()) \
     CALL(hihat_init, (hihat, 48000.0f)) \
-    CALL(hihat_render, (hihat, trigger, linear, hihat_knobs, buffer, PLACES)) \
     CALL(hihat_strike, (hihat, 0.9f, 0.5f)) \
     CALL(hihat_run, (hihat, linear, hihat_knobs, buffer, PLACES)) \
     CALL(hihat_square_noise_zero, ()) \
@@ -148,10 +144,9 @@ static size_t most(const caller *calls, size_t count)
     for (unsigned k = 0; k < count * FLAGS * 2; k++) {
         unsigned flags = k / 2 % FLAGS;
         synthetic_snare_knobs.sustain = hihat_knobs.sustain = flags & 1;
-        trigger = flags & 2;
-        linear = flags & 4;
-        hihat_knobs.resonance = flags & 8;
-        hihat_knobs.two_stage_envelope = flags & 16;
+        linear = flags & 2;
+        hihat_knobs.resonance = flags & 4;
+        hihat_knobs.two_stage_envelope = flags & 8;
         size_t n = used(calls[k / 2 / FLAGS], k % 2 ? 0xa5 : 0x5a);
         most = n > most ? n : most;
     }
@@ -167,6 +162,15 @@ static void write_sheet(void)
     sheet_bytes = (size_t)at;
 }
 
+// A run is that of a struck voice, so that it has the pulses and envelopes that a strike sets off, and what is left after them.
+static void init_and_strike(void)
+{
+    bass = bechullpi_analog_bass_drum_strike(bechullpi_analog_bass_drum_init(bass, 48000.0f).voice, 0.9f).voice;
+    snare = bechullpi_analog_snare_drum_strike(bechullpi_analog_snare_drum_init(snare, 48000.0f).voice, 0.9f).voice;
+    synthetic_snare = bechullpi_synthetic_snare_drum_strike(bechullpi_synthetic_snare_drum_init(synthetic_snare, 48000.0f).voice, 0.9f, 0.5f).voice;
+    hihat = bechullpi_hihat_strike(bechullpi_hihat_init(hihat, 48000.0f).voice, 0.9f, 0.5f).voice;
+}
+
 static bool is_within(size_t limit, size_t bytes, const char *kind)
 {
     printf("%s: %zu bytes, %s the %zu of bechullpi.h\n", kind, bytes, bytes <= limit ? "within" : "ABOVE", limit);
@@ -175,10 +179,7 @@ static bool is_within(size_t limit, size_t bytes, const char *kind)
 
 int main(void)
 {
-    bass = bechullpi_analog_bass_drum_init(bass, 48000.0f).voice;
-    snare = bechullpi_analog_snare_drum_init(snare, 48000.0f).voice;
-    synthetic_snare = bechullpi_synthetic_snare_drum_init(synthetic_snare, 48000.0f).voice;
-    hihat = bechullpi_hihat_init(hihat, 48000.0f).voice;
+    init_and_strike();
     write_sheet();
     if (bechullpi_sheet(sheet, sheet_bytes, buffer, PLACES).cues != 64) {
         puts("the sheet is not accepted");

@@ -1,5 +1,5 @@
 //! Random calls: scripts of a few calls each, with the edges of every range more often than chance would have them.
-use crate::row::{Kind, Row};
+use crate::row::{Kind, Row, TRIGGER};
 use crate::voices::{LAST_BASS_DECAY, LEAST_F0};
 
 /// xorshift64: the same calls for the same seed.
@@ -110,7 +110,42 @@ pub fn script(r: &mut Random, voice: char, longest: u32) -> Vec<Row> {
     rows
 }
 
-/// One call. Of eight renders one has a knob that may be out of range.
+/// The same with strikes alone among the rows. After every other strike come a run that is refused, by 3 if not by 1, and then the same run with an f0 in range: if
+/// the strike was accepted, that goes on from it as if nothing had been refused.
+pub fn script_with_strikes(r: &mut Random, voice: char, longest: u32) -> Vec<Row> {
+    let mut rows = Vec::new();
+    for other in script(r, voice, longest) {
+        rows.push(other);
+        if r.one_in(4) {
+            rows.push(row(r, voice, Kind::Strike, longest));
+            if r.one_in(2) {
+                rows.extend(refused_and_good(r, voice, longest));
+            }
+        }
+    }
+    rows
+}
+
+fn refused_and_good(r: &mut Random, voice: char, longest: u32) -> [Row; 2] {
+    let mut good = Row { voice, kind: Kind::Render, flags: 0, samples: 0, knobs: [0.0; 6], unread: r.word() };
+    draw_block(r, &mut good, longest);
+    good.flags &= !TRIGGER;
+    good.samples = good.samples.min(longest);
+    let mut refused = good;
+    refused.knobs[1] = 0.75;
+    [refused, good]
+}
+
+/// Flags, length and knobs, each knob in its range.
+fn draw_block(r: &mut Random, row: &mut Row, longest: u32) {
+    row.flags = (r.word() & 0x1f) as u8;
+    row.samples = length(r, longest);
+    let [accent, f0, a, decay, c] = knobs(r, row.voice);
+    row.knobs = [accent, f0, a, decay, c, if row.voice == 'b' { knob(r) } else { 0.0 }];
+}
+
+/// One row. Of eight renders one has a knob that may be out of range. A strike has all that a render has, and any of its words may be out of range: one that
+/// asked or read what is not its own would be told.
 pub fn row(r: &mut Random, voice: char, kind: Kind, longest: u32) -> Row {
     // any word, so that a call that read it would be told; drawn as when it was the noise state, so that the recorded rows stay
     let unread = if r.one_in(8) { 33 } else { r.word() };
@@ -118,11 +153,14 @@ pub fn row(r: &mut Random, voice: char, kind: Kind, longest: u32) -> Row {
     match kind {
         Kind::Zero => {}
         Kind::Init => row.knobs[0] = rate(r),
+        Kind::Strike => {
+            draw_block(r, &mut row, longest);
+            for knob in &mut row.knobs {
+                *knob = if r.one_in(6) { outside(r) } else { *knob };
+            }
+        }
         Kind::Render => {
-            row.flags = (r.word() & 0x1f) as u8;
-            row.samples = length(r, longest);
-            let [accent, f0, a, decay, c] = knobs(r, voice);
-            row.knobs = [accent, f0, a, decay, c, if voice == 'b' { knob(r) } else { 0.0 }];
+            draw_block(r, &mut row, longest);
             if r.one_in(8) {
                 let which = r.below(if voice == 'b' { 6 } else { 5 }) as usize;
                 row.knobs[which] = if voice == 'b' && r.one_in(4) { 2.0f32.next_up() } else { outside(r) };

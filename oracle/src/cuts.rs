@@ -1,5 +1,5 @@
-//! Blocks cut into parts: an accepted block that is not sustained leaves what its parts leave, one after the other, the first alone triggered.
-use crate::calls::{self, Random, rate, script};
+//! Blocks cut into parts: an accepted run that is not sustained leaves what runs of its parts leave, one after the other. A strike comes before the first.
+use crate::calls::{self, Random, rate, script_with_strikes};
 use crate::noise::square_noise_f0;
 use crate::port::{self, Records};
 use crate::row::{Kind, Row, SUSTAIN, TRIGGER};
@@ -22,7 +22,7 @@ fn compare_reached(voice: char, scripts: u32) -> u64 {
     let (mut rust, mut port) = (Voices::default(), Records::default());
     let mut cuts = Cuts::default();
     for _ in 0..scripts {
-        for row in script(&mut r, voice, 16384) {
+        for row in script_with_strikes(&mut r, voice, 16384) {
             let from = port;
             let whole = [outcome(&row, |out| rust.play(&row, out)), outcome(&row, |out| port.play(&row, out))];
             cuts.add(&mut r, from, &row, &whole);
@@ -72,8 +72,8 @@ struct Cuts {
 }
 
 impl Cuts {
-    /// A call, the port's record before it, and what it left whole: it is cut at random, and its parts must leave the same. A refused call is not cut,
-    /// nor is a sustained block, whose gain reaches its end within each part.
+    /// A row, the port's record before it, and what it left whole: its run is cut at random, and the parts must leave the same. A refused row is not cut,
+    /// nor is a sustained run, whose gain reaches its end within each part.
     fn add(&mut self, r: &mut Random, from: Records, row: &Row, whole: &[Outcome]) {
         let sustained = matches!(row.voice, 'y' | 'h') && row.flag(SUSTAIN);
         if !matches!(row.kind, Kind::Render) || sustained || whole.iter().all(|side| side.played.refusal != 0) {
@@ -85,7 +85,7 @@ impl Cuts {
         if whole.iter().any(|side| *side != parts) {
             self.differ += 1;
             if self.differ <= 5 {
-                println!("call {row} from {:08x?}", from.left(row.voice, 0));
+                println!("row {row} from {:08x?}", from.left(row.voice, 0));
                 whole.iter().for_each(|side| println!("whole {:?}", side.played));
                 println!("parts {:?}, of {lengths:?}", parts.played);
             }
@@ -121,13 +121,10 @@ fn each_part(mut out: &mut [f32], lengths: &[u32], mut play: impl FnMut(&mut [f3
     }
 }
 
-/// The block of a row in blocks of these lengths: the record is handed on, the knobs stay, the trigger is the first one's.
+/// The block of a row in runs of these lengths, after its strike, if it has one: the record is handed on, the knobs stay.
 fn in_parts(mut port: Records, row: &Row, lengths: &[u32], out: &mut [f32]) -> Played {
-    let (mut part, mut refusal) = (*row, 0);
-    each_part(out, lengths, |now| {
-        refusal = refusal.max(port.render(&part, now));
-        part.flags &= !TRIGGER;
-    });
+    let mut refusal = if row.flag(TRIGGER) { port.strike(row) } else { 0 };
+    each_part(out, lengths, |now| refusal = refusal.max(port.run(row, now)));
     port.left(row.voice, refusal)
 }
 

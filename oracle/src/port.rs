@@ -28,49 +28,28 @@ pub fn bass_knobs([_, f0, tone, decay, attack_fm_amount, self_fm_amount]: Knobs)
     AnalogBassDrumKnobs { f0, tone, decay, attack_fm_amount, self_fm_amount }
 }
 
-pub fn bass_render(voice: AnalogBassDrum, trigger: bool, accent: f32, knobs: AnalogBassDrumKnobs, out: &mut [f32]) -> AnalogBassDrumAnswered {
-    unsafe { bechullpi_analog_bass_drum_render(voice, trigger, accent, knobs, out.as_mut_ptr(), out.len()) }
+pub fn bass_run(voice: AnalogBassDrum, knobs: AnalogBassDrumKnobs, out: &mut [f32]) -> AnalogBassDrumAnswered {
+    unsafe { bechullpi_analog_bass_drum_run(voice, knobs, out.as_mut_ptr(), out.len()) }
 }
 
 pub fn snare_knobs([_, f0, tone, decay, snappy, _]: Knobs) -> AnalogSnareDrumKnobs {
     AnalogSnareDrumKnobs { f0, tone, decay, snappy }
 }
 
-pub fn snare_render(voice: AnalogSnareDrum, trigger: bool, accent: f32, knobs: AnalogSnareDrumKnobs, out: &mut [f32]) -> AnalogSnareDrumAnswered {
-    unsafe { bechullpi_analog_snare_drum_render(voice, trigger, accent, knobs, out.as_mut_ptr(), out.len()) }
+pub fn snare_run(voice: AnalogSnareDrum, knobs: AnalogSnareDrumKnobs, out: &mut [f32]) -> AnalogSnareDrumAnswered {
+    unsafe { bechullpi_analog_snare_drum_run(voice, knobs, out.as_mut_ptr(), out.len()) }
 }
 
 pub fn synthetic_snare_knobs(sustain: bool, [accent, f0, fm_amount, decay, snappy, _]: Knobs) -> SyntheticSnareDrumKnobs {
     SyntheticSnareDrumKnobs { sustain, accent, f0, fm_amount, decay, snappy }
 }
 
-pub fn synthetic_snare_render(
-    voice: SyntheticSnareDrum,
-    trigger: bool,
-    knobs: SyntheticSnareDrumKnobs,
-    out: &mut [f32],
-) -> SyntheticSnareDrumAnswered {
-    unsafe { bechullpi_synthetic_snare_drum_render(voice, trigger, knobs, out.as_mut_ptr(), out.len()) }
+pub fn synthetic_snare_run(voice: SyntheticSnareDrum, knobs: SyntheticSnareDrumKnobs, out: &mut [f32]) -> SyntheticSnareDrumAnswered {
+    unsafe { bechullpi_synthetic_snare_drum_run(voice, knobs, out.as_mut_ptr(), out.len()) }
 }
 
 pub fn hihat_knobs([sustain, resonance, two_stage_envelope]: [bool; 3], [accent, f0, tone, decay, noisiness, _]: Knobs) -> HihatKnobs {
     HihatKnobs { sustain, accent, f0, tone, decay, noisiness, resonance, two_stage_envelope }
-}
-
-pub fn hihat_render(voice: Hihat, [trigger, linear]: [bool; 2], knobs: HihatKnobs, out: &mut [f32]) -> HihatAnswered {
-    unsafe { bechullpi_hihat_render(voice, trigger, linear, knobs, out.as_mut_ptr(), out.len()) }
-}
-
-pub fn bass_run(voice: AnalogBassDrum, knobs: AnalogBassDrumKnobs, out: &mut [f32]) -> AnalogBassDrumAnswered {
-    unsafe { bechullpi_analog_bass_drum_run(voice, knobs, out.as_mut_ptr(), out.len()) }
-}
-
-pub fn snare_run(voice: AnalogSnareDrum, knobs: AnalogSnareDrumKnobs, out: &mut [f32]) -> AnalogSnareDrumAnswered {
-    unsafe { bechullpi_analog_snare_drum_run(voice, knobs, out.as_mut_ptr(), out.len()) }
-}
-
-pub fn synthetic_snare_run(voice: SyntheticSnareDrum, knobs: SyntheticSnareDrumKnobs, out: &mut [f32]) -> SyntheticSnareDrumAnswered {
-    unsafe { bechullpi_synthetic_snare_drum_run(voice, knobs, out.as_mut_ptr(), out.len()) }
 }
 
 pub fn hihat_run(voice: Hihat, linear: bool, knobs: HihatKnobs, out: &mut [f32]) -> HihatAnswered {
@@ -113,11 +92,12 @@ impl Records {
         records
     }
 
-    /// The call of a row, and what it leaves in the record and in `out`.
+    /// The calls of a row, and what they leave in the record and in `out`.
     pub fn play(&mut self, row: &Row, out: &mut [f32]) -> Played {
         let refusal = match row.kind {
             Kind::Zero => self.clear(row.voice),
             Kind::Init => self.init(row.voice, row.knobs[0]),
+            Kind::Strike => self.strike(row),
             Kind::Render => self.render(row, out),
         };
         self.left(row.voice, refusal)
@@ -164,42 +144,13 @@ impl Records {
         }
     }
 
-    /// The number of the refusal of a block of as many samples as `out` has places.
+    /// The number of the first refusal of a row's block of as many samples as `out` has places: of its strike, where it has one, and then of its run.
     pub fn render(&mut self, row: &Row, out: &mut [f32]) -> u32 {
-        let [sustain, trigger] = [row.flag(SUSTAIN), row.flag(TRIGGER)];
-        match row.voice {
-            'b' => {
-                let a = bass_render(self.b, trigger, row.knobs[0], bass_knobs(row.knobs), out);
-                self.b = a.voice;
-                a.number
-            }
-            's' => {
-                let a = snare_render(self.s, trigger, row.knobs[0], snare_knobs(row.knobs), out);
-                self.s = a.voice;
-                a.number
-            }
-            'y' => {
-                let a = synthetic_snare_render(self.y, trigger, synthetic_snare_knobs(sustain, row.knobs), out);
-                self.y = a.voice;
-                a.number
-            }
-            _ => {
-                let knobs = hihat_knobs([sustain, row.flag(RESONANCE), row.flag(TWO_STAGE)], row.knobs);
-                let a = hihat_render(self.h, [trigger, row.flag(LINEAR)], knobs, out);
-                self.h = a.voice;
-                a.number
-            }
-        }
+        let refusal = if row.flag(TRIGGER) { self.strike(row) } else { 0 };
+        if refusal == 0 { self.run(row, out) } else { refusal }
     }
 
-    /// The call of a row that renders in two: a strike, where it is triggered, and a run. The first refusal answers.
-    pub fn strike_and_run(&mut self, row: &Row, out: &mut [f32]) -> Played {
-        let struck = if row.flag(TRIGGER) { self.strike(row) } else { 0 };
-        let refusal = if struck == 0 { self.run(row, out) } else { struck };
-        self.left(row.voice, refusal)
-    }
-
-    fn strike(&mut self, row: &Row) -> u32 {
+    pub fn strike(&mut self, row: &Row) -> u32 {
         let [accent, _, _, decay, ..] = row.knobs;
         match row.voice {
             'b' => {
@@ -225,7 +176,7 @@ impl Records {
         }
     }
 
-    fn run(&mut self, row: &Row, out: &mut [f32]) -> u32 {
+    pub fn run(&mut self, row: &Row, out: &mut [f32]) -> u32 {
         let sustain = row.flag(SUSTAIN);
         match row.voice {
             'b' => {

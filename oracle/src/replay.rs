@@ -1,25 +1,33 @@
 //! The recorded calls: rows that `replay` reads, and what the published voices answer to them.
-use crate::calls::{Random, script};
+use crate::calls::{Random, script, script_with_strikes};
 use crate::row::{Kind, Row};
 use crate::state::{digest, pattern};
 use crate::voices::Voices;
 
-/// 450 calls a voice: rows into one file, answers as `replay` prints them into the other.
+/// 450 rows a voice, and behind all of these 100 more with strikes alone among them: rows into one file, answers as `replay` prints them into the other.
 pub fn record(rows_file: &str, answers_file: &str) {
     let mut rows = Vec::new();
     for voice in ['b', 's', 'y', 'h'] {
-        let mut r = Random::new(voice as u64);
-        let scripts = std::iter::repeat_with(|| {
-            let longest = if r.one_in(20) { 16384 } else { 256 };
-            script(&mut r, voice, longest)
-        });
-        rows.extend(scripts.flatten().take(450));
+        rows.extend(scripts(voice as u64, voice, script).take(450));
+    }
+    for voice in ['b', 's', 'y', 'h'] {
+        rows.extend(scripts(4000 + voice as u64, voice, script_with_strikes).take(100));
     }
     let mut voices = Voices::default();
     let answers: String = rows.iter().map(|row| answer(&mut voices, row)).collect();
     let text: String = rows.iter().map(|row| format!("{row}\n")).collect();
     std::fs::write(rows_file, text).expect("the rows are written");
     std::fs::write(answers_file, answers).expect("the answers are written");
+}
+
+/// The rows of script after script; most have short blocks.
+fn scripts(seed: u64, voice: char, script: fn(&mut Random, char, u32) -> Vec<Row>) -> impl Iterator<Item = Row> {
+    let mut r = Random::new(seed);
+    let scripts = std::iter::repeat_with(move || {
+        let longest = if r.one_in(20) { 16384 } else { 256 };
+        script(&mut r, voice, longest)
+    });
+    scripts.flatten()
 }
 
 /// The refusal, the voice's noise state, and the digests of the samples, of none where there are none to tell, and of the state.

@@ -12,14 +12,21 @@ pub fn digest(words: impl IntoIterator<Item = u32>) -> u32 {
 
 /// The numbers of a `Debug` text in their order, without the fields that are named in `left_out`.
 pub fn words(debug: &str, left_out: &[&str]) -> Vec<u32> {
+    named_words(debug, left_out).into_iter().map(|(_, word)| word).collect()
+}
+
+/// The same, each with the name of the field that it stands in, the innermost one.
+pub fn named_words<'a>(debug: &'a str, left_out: &[&str]) -> Vec<(&'a str, u32)> {
     let mut words = Vec::new();
-    let mut rest = debug;
+    let (mut rest, mut field) = (debug, "");
     while let Some((token, separator, after)) = next_token(rest) {
         rest = after;
         if separator == ':' && left_out.contains(&token) {
             rest = skip_value(rest);
-        } else if separator != ':' && separator != '{' && !token.is_empty() {
-            words.push(word(token));
+        } else if separator == ':' {
+            field = token;
+        } else if separator != '{' && !token.is_empty() {
+            words.push((field, word(token)));
         }
     }
     words

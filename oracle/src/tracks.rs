@@ -104,7 +104,7 @@ impl Sheet {
         VOICES.map(|voice| self.track(voice))
     }
 
-    /// Every cue of the sheet, of whatever voice, begins a segment. The voice renders it with its latest knobs, triggered where the cue is its own.
+    /// Every cue of the sheet, of whatever voice, begins a segment. The voice is struck where the cue is its own, and runs with its latest knobs.
     fn track(&self, voice: char) -> Track {
         let mut records = Records::default();
         let mut refusal = records.init(voice, self.rate as f32);

@@ -1,19 +1,20 @@
-// Answers rows from standard input, so that any oracle can drive the four voices. A row is one call, on the record that the voice's last row left; before the
-// first row every record is zero. It has 79 bytes with its line end, parted by single spaces; its numbers have lower-case hexadecimal digits.
+// Answers rows from standard input, so that any oracle can drive the four voices. A row is a call, or two, on the record that the voice's last row left; before
+// the first row every record is zero. It has 79 bytes with its line end, parted by single spaces; its numbers have lower-case hexadecimal digits.
 //
 //     row     V K FF NNNNNNNN W1 W2 W3 W4 W5 W6 SSSSSSSS
 //     answer  RR SSSSSSSS DDDDDDDD TTTTTTTT
 //
 //     V   b s y h: analog bass drum, analog snare drum, synthetic snare drum, hi-hat
-//     K   n, a record with every field zero; i, init; r, render
+//     K   n, a record with every field zero; i, init; k, strike; r, run, or with the flag trigger strike and then run
 //     FF  flags: 1 sustain, 2 trigger, 4 linear VCA, 8 resonance, 10 two-stage envelope
-//     N   samples        W   patterns of floats        S   the noise state of the voice's record after the call, 0 for b; that of a row is not read
-//     R   the number of the refusal, 00 for an accepted call        D, T   the digests of the samples and of the voice's state
+//     N   samples        W   patterns of floats        S   the noise state of the voice's record after the row, 0 for b; that of a row is not read
+//     R   the number of the first refusal, 00 for an accepted row        D, T   the digests of the samples and of the voice's state
 //
-// The words of `init` are the rate and five that it does not read; those of `render` are accent, f0, a, decay, c and the bass drum's self_fm_amount (for the other
-// voices a word that they do not read), with a and c as on a cue line. Flags that a voice has no use for change nothing. Calls `n` and `i` render nothing, whatever
-// their N. An N above 00004001, flags above 1f and a last line without its line end are malformed, as any other text that is no row: such a line gets
-// `refused,8,K`, K its number from 1, and ends the run.
+// The words of `init` are the rate and five that it does not read; those of `strike` and `run` are accent, f0, a, decay, c and the bass drum's self_fm_amount,
+// with a and c as on a cue line. A strike reads accent and, of y and h, decay; a run of b and s all but accent, one of y and h accent too; the sixth is read by a
+// run of b alone. A refused strike is not followed by its run; a refused run leaves the struck record. Flags that a call has no use for change nothing. Rows `n`,
+// `i` and `k` render nothing, whatever their N. An N above 00004001, flags above 1f and a last line without its line end are malformed, as any other text that is
+// no row: such a line gets `refused,8,K`, K its number from 1, and none is read after it.
 #include "bechullpi.h"
 
 #include <inttypes.h>
@@ -88,7 +89,7 @@ static bool read_words(const char *line, row *r)
 static bool read_row(const char *line, row *r)
 {
     uint32_t flags, samples;
-    if (!is_parted(line) || !is_one_of("bsyh", line[0]) || !is_one_of("nir", line[2]))
+    if (!is_parted(line) || !is_one_of("bsyh", line[0]) || !is_one_of("nikr", line[2]))
         return false;
     if (!number(line + 4, 2, &flags) || flags > MOST_FLAGS || !number(line + 7, 8, &samples) || samples > MOST_SAMPLES)
         return false;
@@ -183,107 +184,63 @@ static uint32_t of_hihat(const bechullpi_hihat *v)
     return of_svf(h, &v->hpf);
 }
 
-// A row answered by its voice, whose record becomes the one after the call.
+// A row answered by its voice, whose record becomes the one after the row.
 
 static float out[MOST_SAMPLES];
 
-// The digest of what a call rendered: of no word where it is refused.
-static uint32_t of_rendered(uint32_t refusal, size_t samples)
+static bool has_strike(const row *r)
 {
-    return of_floats(START, out, refusal == 0 ? samples : 0);
+    return r->call == 'k' || (r->call == 'r' && r->trigger);
 }
 
-static reply render_bass(bechullpi_analog_bass_drum *v, const row *r)
+// The digest of what a row rendered: of no word where nothing ran.
+static uint32_t of_rendered(const row *r, uint32_t refusal)
 {
-    const float *w = r->words;
-    bechullpi_analog_bass_drum_knobs knobs = {.f0 = w[1], .tone = w[2], .decay = w[3], .attack_fm_amount = w[4], .self_fm_amount = w[5]};
-    bechullpi_analog_bass_drum_answered a = bechullpi_analog_bass_drum_render(*v, r->trigger, w[0], knobs, out, r->samples);
-    *v = a.voice;
-    return (reply){a.number, 0, of_rendered(a.number, r->samples), of_bass(v)};
+    return of_floats(START, out, r->call == 'r' && refusal == 0 ? r->samples : 0);
 }
 
-static reply play_bass(bechullpi_analog_bass_drum *v, const row *r)
-{
-    bechullpi_analog_bass_drum_answered a = {0, bechullpi_analog_bass_drum_zero()};
-    if (r->call == 'r')
-        return render_bass(v, r);
-    if (r->call == 'i')
-        a = bechullpi_analog_bass_drum_init(*v, r->words[0]);
-    *v = a.voice;
-    return (reply){a.number, 0, START, of_bass(v)};
-}
+// The calls of a row in turn, each on the voice that the one before answered; the first refusal ends them. `strike` and `run` are the arguments of these two, and
+// the knobs come last. All are in the function's own names: the record `v`, the row `r`, its words `w`, the answer so far `a`.
+#define PLAY(name, noise_state, of_state, strike, run, ...) \
+    static reply play_##name(bechullpi_##name *v, const row *r) \
+    { \
+        const float *w = r->words; \
+        bechullpi_##name##_knobs knobs = {__VA_ARGS__}; \
+        bechullpi_##name##_answered a = {0, *v}; \
+        if (r->call == 'n') \
+            a.voice = bechullpi_##name##_zero(); \
+        if (r->call == 'i') \
+            a = bechullpi_##name##_init(a.voice, w[0]); \
+        if (has_strike(r)) \
+            a = bechullpi_##name##_strike strike; \
+        if (r->call == 'r' && a.number == 0) \
+            a = bechullpi_##name##_run run; \
+        *v = a.voice; \
+        return (reply){a.number, noise_state, of_rendered(r, a.number), of_state(v)}; \
+    }
 
-static reply render_snare(bechullpi_analog_snare_drum *v, const row *r)
-{
-    const float *w = r->words;
-    bechullpi_analog_snare_drum_knobs knobs = {.f0 = w[1], .tone = w[2], .decay = w[3], .snappy = w[4]};
-    bechullpi_analog_snare_drum_answered a = bechullpi_analog_snare_drum_render(*v, r->trigger, w[0], knobs, out, r->samples);
-    *v = a.voice;
-    return (reply){a.number, v->noise, of_rendered(a.number, r->samples), of_snare(v)};
-}
+PLAY(analog_bass_drum, 0, of_bass, (a.voice, w[0]), (a.voice, knobs, out, r->samples),
+     .f0 = w[1], .tone = w[2], .decay = w[3], .attack_fm_amount = w[4], .self_fm_amount = w[5])
 
-static reply play_snare(bechullpi_analog_snare_drum *v, const row *r)
-{
-    bechullpi_analog_snare_drum_answered a = {0, bechullpi_analog_snare_drum_zero()};
-    if (r->call == 'r')
-        return render_snare(v, r);
-    if (r->call == 'i')
-        a = bechullpi_analog_snare_drum_init(*v, r->words[0]);
-    *v = a.voice;
-    return (reply){a.number, v->noise, START, of_snare(v)};
-}
+PLAY(analog_snare_drum, v->noise, of_snare, (a.voice, w[0]), (a.voice, knobs, out, r->samples),
+     .f0 = w[1], .tone = w[2], .decay = w[3], .snappy = w[4])
 
-static reply render_synthetic_snare(bechullpi_synthetic_snare_drum *v, const row *r)
-{
-    const float *w = r->words;
-    bechullpi_synthetic_snare_drum_knobs knobs = {
-        .sustain = r->sustain, .accent = w[0], .f0 = w[1], .fm_amount = w[2], .decay = w[3], .snappy = w[4]};
-    bechullpi_synthetic_snare_drum_answered a = bechullpi_synthetic_snare_drum_render(*v, r->trigger, knobs, out, r->samples);
-    *v = a.voice;
-    return (reply){a.number, v->noise, of_rendered(a.number, r->samples), of_synthetic_snare(v)};
-}
+PLAY(synthetic_snare_drum, v->noise, of_synthetic_snare, (a.voice, w[0], w[3]), (a.voice, knobs, out, r->samples),
+     .sustain = r->sustain, .accent = w[0], .f0 = w[1], .fm_amount = w[2], .decay = w[3], .snappy = w[4])
 
-static reply play_synthetic_snare(bechullpi_synthetic_snare_drum *v, const row *r)
-{
-    bechullpi_synthetic_snare_drum_answered a = {0, bechullpi_synthetic_snare_drum_zero()};
-    if (r->call == 'r')
-        return render_synthetic_snare(v, r);
-    if (r->call == 'i')
-        a = bechullpi_synthetic_snare_drum_init(*v, r->words[0]);
-    *v = a.voice;
-    return (reply){a.number, v->noise, START, of_synthetic_snare(v)};
-}
-
-static reply render_hihat(bechullpi_hihat *v, const row *r)
-{
-    const float *w = r->words;
-    bechullpi_hihat_knobs knobs = {.sustain = r->sustain, .accent = w[0], .f0 = w[1], .tone = w[2], .decay = w[3], .noisiness = w[4],
-                                   .resonance = r->resonance, .two_stage_envelope = r->two_stage_envelope};
-    bechullpi_hihat_answered a = bechullpi_hihat_render(*v, r->trigger, r->linear, knobs, out, r->samples);
-    *v = a.voice;
-    return (reply){a.number, v->noise, of_rendered(a.number, r->samples), of_hihat(v)};
-}
-
-static reply play_hihat(bechullpi_hihat *v, const row *r)
-{
-    bechullpi_hihat_answered a = {0, bechullpi_hihat_zero()};
-    if (r->call == 'r')
-        return render_hihat(v, r);
-    if (r->call == 'i')
-        a = bechullpi_hihat_init(*v, r->words[0]);
-    *v = a.voice;
-    return (reply){a.number, v->noise, START, of_hihat(v)};
-}
+PLAY(hihat, v->noise, of_hihat, (a.voice, w[0], w[3]), (a.voice, r->linear, knobs, out, r->samples),
+     .sustain = r->sustain, .accent = w[0], .f0 = w[1], .tone = w[2], .decay = w[3], .noisiness = w[4],
+     .resonance = r->resonance, .two_stage_envelope = r->two_stage_envelope)
 
 static reply play(voices *v, const row *r)
 {
     switch (r->voice) {
     case 'b':
-        return play_bass(&v->bass, r);
+        return play_analog_bass_drum(&v->bass, r);
     case 's':
-        return play_snare(&v->snare, r);
+        return play_analog_snare_drum(&v->snare, r);
     case 'y':
-        return play_synthetic_snare(&v->synthetic_snare, r);
+        return play_synthetic_snare_drum(&v->synthetic_snare, r);
     default:
         return play_hihat(&v->hihat, r);
     }

@@ -67,12 +67,14 @@ fn run(blocks: u32, knobs: Knobs, mut side: impl FnMut(f32, Knobs, u32, &mut [f3
     Box::new(move |out| side(black_box(RATE), black_box(knobs), black_box(blocks), out))
 }
 
-/// Each side makes its voice, and renders block after block: the knobs are hidden anew at each, as the side takes them, the port's in a record.
+/// Each side makes its voice, strikes it and renders block after block: the port by a strike and then a run for each, the Rust with a trigger at the first. The
+/// knobs are hidden anew at each block, as the side takes them, the port's in a record.
 fn bass_port(rate: f32, knobs: Knobs, blocks: u32, out: &mut [f32]) {
-    let mut voice = port::bechullpi_analog_bass_drum_init(port::bechullpi_analog_bass_drum_zero(), rate).voice;
-    let (accent, record) = (knobs[0], port::bass_knobs(knobs));
-    for i in 0..blocks {
-        voice = port::bass_render(voice, i == 0, black_box(accent), black_box(record), out).voice;
+    let voice = port::bechullpi_analog_bass_drum_init(port::bechullpi_analog_bass_drum_zero(), rate).voice;
+    let mut voice = port::bechullpi_analog_bass_drum_strike(voice, knobs[0]).voice;
+    let record = port::bass_knobs(knobs);
+    for _ in 0..blocks {
+        voice = port::bass_run(voice, black_box(record), out).voice;
     }
 }
 
@@ -86,10 +88,11 @@ fn bass_rust(rate: f32, knobs: Knobs, blocks: u32, out: &mut [f32]) {
 }
 
 fn snare_port(rate: f32, knobs: Knobs, blocks: u32, out: &mut [f32]) {
-    let mut voice = port::bechullpi_analog_snare_drum_init(port::bechullpi_analog_snare_drum_zero(), rate).voice;
-    let (accent, record) = (knobs[0], port::snare_knobs(knobs));
-    for i in 0..blocks {
-        voice = port::snare_render(voice, i == 0, black_box(accent), black_box(record), out).voice;
+    let voice = port::bechullpi_analog_snare_drum_init(port::bechullpi_analog_snare_drum_zero(), rate).voice;
+    let mut voice = port::bechullpi_analog_snare_drum_strike(voice, knobs[0]).voice;
+    let record = port::snare_knobs(knobs);
+    for _ in 0..blocks {
+        voice = port::snare_run(voice, black_box(record), out).voice;
     }
 }
 
@@ -104,10 +107,11 @@ fn snare_rust(rate: f32, knobs: Knobs, blocks: u32, out: &mut [f32]) {
 }
 
 fn synthetic_snare_port(rate: f32, knobs: Knobs, blocks: u32, out: &mut [f32]) {
-    let mut voice = port::bechullpi_synthetic_snare_drum_init(port::bechullpi_synthetic_snare_drum_zero(), rate).voice;
+    let voice = port::bechullpi_synthetic_snare_drum_init(port::bechullpi_synthetic_snare_drum_zero(), rate).voice;
+    let mut voice = port::bechullpi_synthetic_snare_drum_strike(voice, knobs[0], knobs[3]).voice;
     let record = port::synthetic_snare_knobs(false, knobs);
-    for i in 0..blocks {
-        voice = port::synthetic_snare_render(voice, i == 0, black_box(record), out).voice;
+    for _ in 0..blocks {
+        voice = port::synthetic_snare_run(voice, black_box(record), out).voice;
     }
 }
 
@@ -122,10 +126,11 @@ fn synthetic_snare_rust(rate: f32, knobs: Knobs, blocks: u32, out: &mut [f32]) {
 }
 
 fn hihat_port(rate: f32, knobs: Knobs, blocks: u32, out: &mut [f32]) {
-    let mut voice = port::bechullpi_hihat_init(port::bechullpi_hihat_zero(), rate).voice;
+    let voice = port::bechullpi_hihat_init(port::bechullpi_hihat_zero(), rate).voice;
+    let mut voice = port::bechullpi_hihat_strike(voice, knobs[0], knobs[3]).voice;
     let record = port::hihat_knobs([false, true, false], knobs);
-    for i in 0..blocks {
-        voice = port::hihat_render(voice, [i == 0, black_box(false)], black_box(record), out).voice;
+    for _ in 0..blocks {
+        voice = port::hihat_run(voice, black_box(false), black_box(record), out).voice;
     }
 }
 

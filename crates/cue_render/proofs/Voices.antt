@@ -87,7 +87,7 @@ snare_lawful =
 
 -- ---- y, which stores its rate and keeps it
 synthetic_snare_plays : (cue : Cue) → KnobsOf cue → PlaysAt (λ v. is_sample_rate v.sample_rate_hz ≡ true) (synthetic_snare_cue cue)
-unfolding synthetic_snare_cue SyntheticSnareDrum.render_refusal strike_refusal
+unfolding synthetic_snare_cue SyntheticSnareDrum.run_refusal strike_refusal
 synthetic_snare_plays (SyntheticSnare accent f0 fm_amount decay snappy) q = record {
   strikes = λ v ready. rw (ready, q.accent_in, q.decay_in);
   struck = λ v ready. ap is_sample_rate (SyntheticSnareRate.strike_keeps_rate v accent decay) ∙ ready;
@@ -120,7 +120,7 @@ synthetic_snare_lawful = record {
 
 -- ---- h, which does the same
 hihat_plays : (cue : Cue) → KnobsOf cue → PlaysAt (λ v. is_sample_rate v.sample_rate ≡ true) (hihat_cue cue)
-unfolding hihat_cue Hihat.render_refusal Hihat.passes strike_refusal
+unfolding hihat_cue Hihat.run_refusal Hihat.passes strike_refusal
 hihat_plays (HihatCue accent f0 tone decay noisiness) q = record {
   strikes = λ v ready. rw (ready, q.accent_in, q.decay_in);
   struck = λ v ready. ap is_sample_rate (HihatRate.strike_keeps_rate v accent decay) ∙ ready;

@@ -10,7 +10,7 @@ use Rattle.refusal.proofs.ByNumber.{shorter_at_rate}
 use Rattle.refusal.proofs.Rows.{in_rows}
 use Rattle.filter.specs.Svf as Svf
 use Rattle.filter.proofs.Tuned.{svf_stays}
-use Rattle.hihat.specs.Hihat.{settings, metallic, set_coloration, colored, clocked, decay, amplified, set_hpf, high_passed, passes, render_refusal}
+use Rattle.hihat.specs.Hihat.{settings, metallic, set_coloration, colored, clocked, decay, amplified, set_hpf, high_passed, passes, run_refusal}
 use Rattle.hihat.specs.OnePass.{tuned, step}
 use Rattle.hihat.specs.AnyBlockLength.{AnyBlockLength, AnyNoiseLength}
 use Rattle.hihat.specs.declared.Hihat.{Hihat}
@@ -54,7 +54,7 @@ stays b hz v x t = record {
 }
 
 pub any_block_length : AnyBlockLength InTwo
-unfolding render_refusal
+unfolding run_refusal
 any_block_length kind k unsustained v a b h =
     let n = length (a ++ b) in
     let first = shorter_at_rate v.sample_rate n _ h (length a) (omega (arith, length-append a b)) in

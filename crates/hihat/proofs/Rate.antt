@@ -25,4 +25,4 @@ unfolding spec.triggered
 strike_keeps_rate v accent decay = call_keeps rate (strike_refusal v.sample_rate accent decay) _ v refl
 
 pub run_keeps_rate : (v : Hihat) (kind : VcaType) (k : Knobs) (out : List Float) → (spec.run v kind k out).state.sample_rate ≡ v.sample_rate
-run_keeps_rate v kind k out = call_keeps rate (spec.render_refusal v.sample_rate k (length out)) _ v (passes_keep _ _)
+run_keeps_rate v kind k out = call_keeps rate (spec.run_refusal v.sample_rate k (length out)) _ v (passes_keep _ _)

@@ -4,13 +4,13 @@ use lib.Ieee.{Float}
 use Rattle.refusal.specs.Refusal.{is_sample_rate, is_block_length, is_frequency, is_unit, strike_refusal}
 use Rattle.refusal.proofs.Rows.{accepted}
 use Rattle.refusal.proofs.StrikeAndRun.{asked_again}
-use Rattle.hihat.specs.Hihat.{triggered, strike, settings, render_refusal}
+use Rattle.hihat.specs.Hihat.{triggered, strike, settings, run_refusal}
 use Rattle.hihat.specs.StrikeThenRun.{StrikeThenRun}
 use Rattle.hihat.specs.declared.Knobs.{Knobs}
 use Rattle.hihat.proofs.Rate.{strike_keeps_rate}
 
-again : (hz : Float) (k : Knobs) (n : ℕ) → render_refusal hz k n ≡ 0 → strike_refusal hz k.accent k.decay ≡ 0
-unfolding strike_refusal render_refusal
+again : (hz : Float) (k : Knobs) (n : ℕ) → run_refusal hz k n ≡ 0 → strike_refusal hz k.accent k.decay ≡ 0
+unfolding strike_refusal run_refusal
 again hz k n = asked_again (is_sample_rate hz) (is_block_length n) (is_frequency k.f0) (is_unit k.accent) (is_unit k.tone) (is_unit k.decay) _
 
 pub strike_then_run : StrikeThenRun

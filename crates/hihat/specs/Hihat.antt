@@ -200,9 +200,9 @@ passes b p =
 
 -- ---- render: the call
 
--- the number of the first question that is not passed; 0 where all are
-unfoldable pub render_refusal : Float → Knobs → ℕ → ℕ
-render_refusal sample_rate k samples =
+-- the number of the first question that is not passed; 0 where all are. A run asks them too, accent among them
+unfoldable pub run_refusal : Float → Knobs → ℕ → ℕ
+run_refusal sample_rate k samples =
     ask (is_sample_rate sample_rate) 1
     (ask (is_block_length samples) 2
     (ask (is_frequency k.f0) 3
@@ -217,13 +217,12 @@ render self trigger vca_type k out =
     -- `if trigger {`
     let begun = cond trigger (triggered self k.accent k.decay) self in
     let p = passes b (record { state = begun; out = out }) in
-    call (render_refusal self.sample_rate k (length out)) p.state p.out self out
+    call (run_refusal self.sample_rate k (length out)) p.state p.out self out
 
 -- ---- `render` as two calls (specs/StrikeThenRun.antt): a strike is what stands under `if trigger {`, a run is all else
 
 abbrev pub strike : Hihat → Float → Float → Call Hihat
 strike self accent decay = call (strike_refusal self.sample_rate accent decay) (triggered self accent decay) [] self []
 
--- it asks what `render` asks, accent too
 abbrev pub run : Hihat → VcaType → Knobs → List Float → Call Hihat
 run self vca_type k out = render self false vca_type k out

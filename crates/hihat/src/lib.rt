@@ -201,9 +201,9 @@ impl Hihat {
 
 impl Knobs {
     // The questions of a run, written out for each voice: its own knobs, in the scope's order.
-    #[tactic(auto, unfolding(crate::specs::Hihat::render_refusal))]
+    #[tactic(auto, unfolding(crate::specs::Hihat::run_refusal))]
     fn asked(self, sample_rate: f32, samples: usize) -> Result<BlockLength, Refusal>
-        ensures number { answer_number result ≡ spec.render_refusal sample_rate self samples }
+        ensures number { answer_number result ≡ spec.run_refusal sample_rate self samples }
         ensures length { IfOk result (λ length. length ≡ samples) }
     {
         ask(is_sample_rate(sample_rate), Refusal::SampleRate)?;

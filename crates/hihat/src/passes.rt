@@ -1,4 +1,4 @@
-// One sample through the passes of `Hihat::render`, past the metallic noise.
+// One sample through the passes of the Rust's `Hihat::render`, past the metallic noise.
 ghost use Rattle.std.specs.Prelude.{◌≡◌};
 ghost use Rattle.hihat.specs.Hihat as spec;
 

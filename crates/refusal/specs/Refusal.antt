@@ -77,7 +77,7 @@ is_unit x = within (decimal 0 0) (decimal 1 0) x
 unfoldable pub is_bass_decay : Float → Bool
 is_bass_decay x = within (decimal 0 0) (decimal 2 0) x
 
--- ---- the questions of a strike of the synthetic snare and of the hi-hat: those of `render` but for what it asks of the block, the pitch and the other knobs
+-- ---- the questions of a strike of the synthetic snare and of the hi-hat: those of their runs but for what is asked of the block, the pitch and the other knobs
 
 unfoldable pub strike_refusal : Float → Float → Float → ℕ
 strike_refusal sample_rate_hz accent decay =

@@ -39,7 +39,7 @@ pub struct Refused<V> {
     pub refusal: Refusal,
 }
 
-// No trait for `init`, `render`, `strike` and `run`: their parameters are the Rust's and differ from voice to voice, but for `init`, and each is its questions,
+// No trait for `init`, `strike` and `run`: their parameters are the Rust's and differ from voice to voice, but for `init`, and each is its questions,
 // a `?` that hands the voice back by `of`, and one line. So a trait is no plainer.
 impl Refusal {
     pub fn of<V>(self, voice: V) -> Refused<V>

@@ -14,7 +14,7 @@ use Rattle.refusal.proofs.Rows.{in_rows}
 use Rattle.filter.specs.OnePole as OnePole
 use Rattle.filter.specs.Svf as Svf
 use Rattle.filter.proofs.Tuned.{svf_stays, one_pole_stays}
-use Rattle.synthetic_snare_drum.specs.SyntheticSnareDrum.{settings, tuned, step, render_refusal}
+use Rattle.synthetic_snare_drum.specs.SyntheticSnareDrum.{settings, tuned, step, run_refusal}
 use Rattle.synthetic_snare_drum.specs.AnyBlockLength.{AnyBlockLength}
 use Rattle.synthetic_snare_drum.specs.declared.SyntheticSnareDrum.{SyntheticSnareDrum}
 use Rattle.synthetic_snare_drum.specs.declared.Knobs.{Knobs}
@@ -53,7 +53,7 @@ unfolding tuned OnePole.set_f Svf.set_g_q Svf.set_g_r
 begins b v = record { again = refl; rate = refl }
 
 pub any_block_length : AnyBlockLength InTwo
-unfolding render_refusal
+unfolding run_refusal
 any_block_length k unsustained v a b h =
     let n = length a + length b in
     let whole = rw length-append at h in

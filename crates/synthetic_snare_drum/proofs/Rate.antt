@@ -21,4 +21,4 @@ pub run_keeps_rate : (v : SyntheticSnareDrum) (k : Knobs) (out : List Float) →
 unfolding spec.tuned spec.step
 run_keeps_rate v k out =
     let b = spec.settings v k (length out) in
-    call_keeps rate (spec.render_refusal v.sample_rate_hz k (length out)) _ v (after_keeps (spec.step b (length out)) rate (λ w. refl) (length out) (spec.tuned v b))
+    call_keeps rate (spec.run_refusal v.sample_rate_hz k (length out)) _ v (after_keeps (spec.step b (length out)) rate (λ w. refl) (length out) (spec.tuned v b))

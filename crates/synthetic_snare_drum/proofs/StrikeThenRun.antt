@@ -7,13 +7,13 @@ use lib.Ieee.{Float}
 use Rattle.refusal.specs.Refusal.{is_sample_rate, is_block_length, is_frequency, is_unit, strike_refusal}
 use Rattle.refusal.proofs.Rows.{accepted}
 use Rattle.refusal.proofs.StrikeAndRun.{asked_again}
-use Rattle.synthetic_snare_drum.specs.SyntheticSnareDrum.{triggered, strike, settings, tuned, render_refusal}
+use Rattle.synthetic_snare_drum.specs.SyntheticSnareDrum.{triggered, strike, settings, tuned, run_refusal}
 use Rattle.synthetic_snare_drum.specs.StrikeThenRun.{StrikeThenRun}
 use Rattle.synthetic_snare_drum.specs.declared.Knobs.{Knobs}
 use Rattle.synthetic_snare_drum.proofs.Rate.{strike_keeps_rate}
 
-again : (hz : Float) (k : Knobs) (n : ℕ) → render_refusal hz k n ≡ 0 → strike_refusal hz k.accent k.decay ≡ 0
-unfolding strike_refusal render_refusal
+again : (hz : Float) (k : Knobs) (n : ℕ) → run_refusal hz k n ≡ 0 → strike_refusal hz k.accent k.decay ≡ 0
+unfolding strike_refusal run_refusal
 again hz k n = asked_again (is_sample_rate hz) (is_block_length n) (is_frequency k.f0) (is_unit k.accent) (is_unit k.fm_amount) (is_unit k.decay) _
 
 pub strike_then_run : StrikeThenRun

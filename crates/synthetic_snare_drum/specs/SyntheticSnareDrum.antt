@@ -189,9 +189,9 @@ step b size self =
 
 -- ---- render
 
--- the number of the first question that is not passed; 0 where all are
-unfoldable pub render_refusal : Float → Knobs → ℕ → ℕ
-render_refusal sample_rate_hz k size =
+-- the number of the first question that is not passed; 0 where all are. A run asks them too, accent among them
+unfoldable pub run_refusal : Float → Knobs → ℕ → ℕ
+run_refusal sample_rate_hz k size =
     ask (is_sample_rate sample_rate_hz) 1
     (ask (is_block_length size) 2
     (ask (is_frequency k.f0) 3
@@ -206,13 +206,12 @@ render self trigger k out =
     let b = settings self k size in
     let voice = tuned self b in
     let begun = cond trigger (triggered voice k.accent k.decay) voice in
-    call (render_refusal self.sample_rate_hz k size) (after (step b size) size begun) (samples (step b size) size begun) self out
+    call (run_refusal self.sample_rate_hz k size) (after (step b size) size begun) (samples (step b size) size begun) self out
 
 -- ---- `render` as two calls (specs/StrikeThenRun.antt): a strike is what stands under `if trigger {`, a run is all else
 
 abbrev pub strike : SyntheticSnareDrum → Float → Float → Call SyntheticSnareDrum
 strike self accent decay = call (strike_refusal self.sample_rate_hz accent decay) (triggered self accent decay) [] self []
 
--- it asks what `render` asks, accent too
 abbrev pub run : SyntheticSnareDrum → Knobs → List Float → Call SyntheticSnareDrum
 run self k out = render self false k out

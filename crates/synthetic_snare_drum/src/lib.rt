@@ -251,9 +251,9 @@ impl SyntheticSnareDrum {
 
 impl Knobs {
     // The questions of a run, written out for each voice: its own knobs, in the scope's order.
-    #[tactic(auto, unfolding(crate::specs::SyntheticSnareDrum::render_refusal))]
+    #[tactic(auto, unfolding(crate::specs::SyntheticSnareDrum::run_refusal))]
     fn asked(self, sample_rate_hz: f32, samples: usize) -> Result<BlockLength, Refusal>
-        ensures number { answer_number result ≡ spec.render_refusal sample_rate_hz self samples }
+        ensures number { answer_number result ≡ spec.run_refusal sample_rate_hz self samples }
         ensures length { IfOk result (λ length. length ≡ samples) }
     {
         ask(is_sample_rate(sample_rate_hz), Refusal::SampleRate)?;

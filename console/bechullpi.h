@@ -5,29 +5,35 @@
 // LINK
 //     console/build
 //     gcc -std=c11 -I console yours.c target/console/libconsole.a
-// console/example.c is a sound loop to begin from. What each function gives is defined in the specs/ of the crate in its name.
+// console/example.c is a stick and a sound loop to begin from. What each function gives is defined in the specs/ of the crate in its name.
 //
 // RECORDS
 // A record is a value. A call takes one and answers the one after it; keep that for the next call. Nothing is kept anywhere else: there
-// is no global state, no allocation, no input or output, no lock. One thread at a time owns a record; calls with different records may
-// run at once. A voice starts from its zero record, then `init`, then `render`, block after block. A record may hold any patterns, but a
-// bool is 0 or 1.
+// is no global state, no allocation, no input or output, no lock. A voice starts from its zero record, then `init`, and then come strikes
+// and runs. A record may hold any patterns, but a bool is 0 or 1.
 //
-// STRIKES
-// `strike` and `run` are `render` as two calls. `strike` takes accent, and for a synthetic snare or a hi-hat decay, and does what a
-// trigger does: it renders nothing, and leaves filters and noise alone. `run` renders a block and triggers nothing. A strike and then a
-// run with the same knobs are a triggered `render`, and a run alone is one without a trigger. This is proved. The knobs of a run need not
-// be those of the strike, and of two strikes with no run between them the last counts.
+// STRIKES AND RUNS
+// A sound is a strike and then runs. `strike` does what a trigger does and nothing else: it takes accent, and for a synthetic snare or a
+// hi-hat decay, and renders no sample. `run` renders a block without a trigger: it takes the knobs and a buffer.
+// The decay of a strike says how long the noise of a synthetic snare holds before it fades, from 40 to 70 milliseconds, and how high the
+// envelope of a hi-hat begins: a longer decay begins lower. The knobs of a run need not be those of the strike. Their decay says how fast
+// the sound fades in that run; accent, which a synthetic snare and a hi-hat have among them, counts only where the run sustains.
+// Of strikes with no run between them the last accepted one counts, as if there had been no other.
+// Where no call is refused, a strike and then a run with the same knobs are the Rust's `render` with its trigger set, and a run alone is
+// the one without. This is proved.
 //
 // THREADS
-// The stick's thread knows when, the sound's thread knows how many samples. So the stick does not call `strike` on a record that the
-// sound loop has: it queues accent and decay. The sound loop takes them at the start of its next block, strikes, and then runs.
+// One thread at a time owns a record; calls with different records may run at once. The stick's thread knows when a sound begins, the
+// sound loop's thread knows how many samples a block has, and the sound loop owns the records. So the stick does not call `strike`: it
+// puts accent and decay into a queue. At the start of a block the sound loop takes what is queued, strikes, and then runs. One place in
+// the queue is enough for a voice: a new strike may take the place of one that still waits, since the last one counts.
+// console/example.c has such a queue, without a lock.
 //
 // ANSWERS
-// A call that is not fit answers a number other than 0, and then the record and the buffer are as they were. Ask for it after every call.
-// If a run is refused, the strike before it stands. The first question that is not passed gives the number: a voice asks 1 to 5 in this
-// order, a sheet 7, then of each cue 10, 8, 9, 3, 4, 5, and 11 at the end. A NaN is no number, and -0.0 is 0.0. A strike asks 4, and for a
-// synthetic snare or a hi-hat 1, 4 and 5, of decay; a run of the analog voices, which takes no accent, does not ask 4.
+// A call that is not fit answers a number other than 0, and then the record and the buffer are as they were. Look at it after every call.
+// If a run is refused, the strike before it stands: the next accepted run sounds as if that strike came just before it. The first question
+// that is not passed gives the number: a voice asks in the order 1 to 5, a sheet 7, then of each cue 10, 8, 9, 3, 4, 5, and 11 at the end.
+// A NaN is no number, and -0.0 is 0.0.
 //      1  the sample rate is not a number from 16000.0 to 96000.0
 //      2  the block has more than 16,384 samples
 //      3  f0, in cycles a sample, is not a number from 2^-20 to 0.5
@@ -39,19 +45,26 @@
 //      9  sheet: a cue does not start below the length and after the cue before it
 //     10  sheet: there are more than 64 cues
 //     11  sheet: the buffer has fewer places than the sheet has samples
+// What a voice asks:
+//                       init   strike    run
+//      analog bass      1      4         2, 3, 5
+//      analog snare     1      4         2, 3, 5
+//      synthetic snare  1      1, 4, 5   1, 2, 3, 4, 5
+//      hi-hat           1      1, 4, 5   1, 2, 3, 4, 5
+// A strike and a run ask 1 of the rate that the record holds from `init`, and a run asks 4 whether it sustains or not.
 // What answers no such number takes any value.
 //
 // SAMPLES ARE NOT LIMITED TO 1.0. A synthetic snare reached 110 in a sheet that is accepted. Limit before the converter.
 //
 // NOISE
-// Each record of an analog snare, a synthetic snare or a hi-hat carries its own noise state, in its last field. `init` sets it to 33, and
-// `render` goes on from there. A knock on one voice does not change another's noise. Nothing needs to be passed on.
+// Each record of an analog snare, a synthetic snare or a hi-hat carries its own noise state, in its last field. `init` sets it to 33, a run
+// goes on from there, and a strike leaves it as it is. A knock on one voice does not change another's noise. Nothing needs to be passed on.
 //
 // BLOCKS
-// The lengths of the blocks do not change the sound. Where nothing sustains, no block but the first is triggered and the knobs stay, any
-// two ways to cut a sound into accepted blocks give the same samples and leave the same record, bit for bit, its noise state included; and
-// the parts of an accepted block are accepted. This is proved. A block may have 0 samples, and may still change the record. A sustained
-// block is excepted: its gain slides over the block's own length.
+// The lengths of the blocks do not change the sound. From one strike to the next, where nothing sustains and the knobs stay, any two ways
+// to cut the sound into accepted runs give the same samples and leave the same record, bit for bit, its noise state included; and the
+// parts of an accepted run are accepted. This is proved. So a strike may come at any sample: run up to it, strike, and run over the rest.
+// A block may have 0 samples, and may still change the record. A sustained block is excepted: its gain slides over the block's own length.
 //
 // POINTERS
 // A buffer crosses as a pointer to its first place and the number of its places. The pointer is not null, also where the number is 0.
@@ -59,13 +72,13 @@
 //
 // FLOATING-POINT ENVIRONMENT
 // Rounding to nearest, FLUSH-TO-ZERO AND DENORMALS-ARE-ZERO OFF, exceptions masked: the default of C. Audio code likes to turn the two on,
-// and so does linking with gcc's -ffast-math; turn them off around the calls. With them on, the accent 80000001, a number below zero, is
-// accepted and rendered; with rounding upward every sheet tried had other samples.
+// and so does linking with gcc's -ffast-math; turn them off around the calls. With them on, a strike with the accent 80000001, a number
+// below zero, is accepted; with rounding upward every sheet tried had other samples.
 // A NaN is one value here: which of its patterns comes back is the machine's choice.
 //
 // STACK
 // A call takes at most BECHULLPI_STACK_.. bytes, as below, of its caller's stack, arguments and answer included. console/stack.c measures
-// on memory that is painted before each call: some 120 bytes for a number or a filter, 2,100 for a voice, 67,300 for a sheet (gcc 12, the
+// on memory that is painted before each call: some 140 bytes for a number or a filter, 1,400 for a voice, 67,300 for a sheet (gcc 12, the
 // library as console/build makes it). It fails where a figure is passed. What is above that is room for the dynamic linker: binding memcpy
 // on its first call took 2,600 bytes more.
 #ifndef BECHULLPI_H
@@ -362,16 +375,10 @@ bechullpi_analog_bass_drum bechullpi_analog_bass_drum_zero(void);
 // Refused by 1.
 bechullpi_analog_bass_drum_answered bechullpi_analog_bass_drum_init(bechullpi_analog_bass_drum voice, float sample_rate_hz);
 
-// Refused by 2, 3, 4 and 5.
-bechullpi_analog_bass_drum_answered bechullpi_analog_bass_drum_render(
-    bechullpi_analog_bass_drum voice, bool trigger, float accent, bechullpi_analog_bass_drum_knobs knobs,
-    float *out, size_t out_length
-);
-
-// Refused by 4.
+// What a trigger does and nothing else: it renders no sample, sets no filter and draws no noise. Refused by 4.
 bechullpi_analog_bass_drum_answered bechullpi_analog_bass_drum_strike(bechullpi_analog_bass_drum voice, float accent);
 
-// Refused by 2, 3 and 5.
+// A block without a trigger. Refused by 2, 3 and 5.
 bechullpi_analog_bass_drum_answered bechullpi_analog_bass_drum_run(
     bechullpi_analog_bass_drum voice, bechullpi_analog_bass_drum_knobs knobs, float *out, size_t out_length
 );
@@ -414,16 +421,10 @@ bechullpi_analog_snare_drum bechullpi_analog_snare_drum_zero(void);
 // Refused by 1.
 bechullpi_analog_snare_drum_answered bechullpi_analog_snare_drum_init(bechullpi_analog_snare_drum voice, float sample_rate_hz);
 
-// Refused by 2, 3, 4 and 5.
-bechullpi_analog_snare_drum_answered bechullpi_analog_snare_drum_render(
-    bechullpi_analog_snare_drum voice, bool trigger, float accent, bechullpi_analog_snare_drum_knobs knobs,
-    float *out, size_t out_length
-);
-
-// Refused by 4.
+// What a trigger does and nothing else: it renders no sample, sets no filter and draws no noise. Refused by 4.
 bechullpi_analog_snare_drum_answered bechullpi_analog_snare_drum_strike(bechullpi_analog_snare_drum voice, float accent);
 
-// Refused by 2, 3 and 5.
+// A block without a trigger. Refused by 2, 3 and 5.
 bechullpi_analog_snare_drum_answered bechullpi_analog_snare_drum_run(
     bechullpi_analog_snare_drum voice, bechullpi_analog_snare_drum_knobs knobs, float *out, size_t out_length
 );
@@ -478,17 +479,13 @@ bechullpi_synthetic_snare_drum_answered bechullpi_synthetic_snare_drum_init(
     bechullpi_synthetic_snare_drum voice, float sample_rate_hz
 );
 
-// Refused by 1, of the rate that the voice stores, 2, 3, 4 and 5.
-bechullpi_synthetic_snare_drum_answered bechullpi_synthetic_snare_drum_render(
-    bechullpi_synthetic_snare_drum voice, bool trigger, bechullpi_synthetic_snare_drum_knobs knobs, float *out, size_t out_length
-);
-
-// Refused by 1, of the rate that the voice stores, 4 and 5.
+// What a trigger does and nothing else: it renders no sample, sets no filter and draws no noise. Refused by 1, of the rate that
+// the voice stores, 4 and 5.
 bechullpi_synthetic_snare_drum_answered bechullpi_synthetic_snare_drum_strike(
     bechullpi_synthetic_snare_drum voice, float accent, float decay
 );
 
-// Refused by 1, of the rate that the voice stores, 2, 3, 4 and 5.
+// A block without a trigger. Refused by 1, of the rate that the voice stores, 2, 3, 4 and 5.
 bechullpi_synthetic_snare_drum_answered bechullpi_synthetic_snare_drum_run(
     bechullpi_synthetic_snare_drum voice, bechullpi_synthetic_snare_drum_knobs knobs, float *out, size_t out_length
 );
@@ -521,7 +518,7 @@ typedef struct bechullpi_hihat_answered {
 } bechullpi_hihat_answered;
 BECHULLPI_STATIC_ASSERT(sizeof(bechullpi_hihat_answered) == 92, "bechullpi_hihat_answered");
 
-// The parameters of `render`, but for the trigger and the kind of the VCA.
+// The parameters of a block, but for the kind of the VCA.
 typedef struct bechullpi_hihat_knobs {
     bool sustain;
     float accent;
@@ -548,15 +545,12 @@ bechullpi_hihat bechullpi_hihat_zero(void);
 // Refused by 1.
 bechullpi_hihat_answered bechullpi_hihat_init(bechullpi_hihat voice, float sample_rate);
 
-// Refused by 1, of the rate that the voice stores, 2, 3, 4 and 5. The VCA is the swing one unless `linear` is set.
-bechullpi_hihat_answered bechullpi_hihat_render(
-    bechullpi_hihat voice, bool trigger, bool linear, bechullpi_hihat_knobs knobs, float *out, size_t out_length
-);
-
-// Refused by 1, of the rate that the voice stores, 4 and 5.
+// What a trigger does and nothing else: it renders no sample, sets no filter and draws no noise. Refused by 1, of the rate that
+// the voice stores, 4 and 5.
 bechullpi_hihat_answered bechullpi_hihat_strike(bechullpi_hihat voice, float accent, float decay);
 
-// Refused by 1, of the rate that the voice stores, 2, 3, 4 and 5. The VCA is the swing one unless `linear` is set.
+// A block without a trigger. The VCA is the swing one unless `linear` is set. Refused by 1, of the rate that the voice stores, 2,
+// 3, 4 and 5.
 bechullpi_hihat_answered bechullpi_hihat_run(
     bechullpi_hihat voice, bool linear, bechullpi_hihat_knobs knobs, float *out, size_t out_length
 );

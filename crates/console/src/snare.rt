@@ -43,23 +43,7 @@ pub extern "C" fn bechullpi_analog_snare_drum_init(
     voice.init(sample_rate_hz).into()
 }
 
-// Refused by 2, 3, 4 and 5.
-#[unsafe(no_mangle)]
-pub extern "C" fn bechullpi_analog_snare_drum_render(
-    voice: AnalogSnareDrum,
-    trigger: bool,
-    accent: f32,
-    knobs: Knobs,
-    out: &mut [f32],
-) -> AnalogSnareDrumAnswered
-    ensures number { result.number ≡ (spec.render voice trigger accent knobs out.old).number }
-    ensures voice { result.voice ≡ (spec.render voice trigger accent knobs out.old).state }
-    ensures out { out.new ≡ (spec.render voice trigger accent knobs out.old).out }
-{
-    voice.render(trigger, accent, knobs, out).into()
-}
-
-// Refused by 4.
+// What a trigger does and nothing else: it renders no sample, sets no filter and draws no noise. Refused by 4.
 #[unsafe(no_mangle)]
 pub extern "C" fn bechullpi_analog_snare_drum_strike(
     voice: AnalogSnareDrum,
@@ -71,7 +55,7 @@ pub extern "C" fn bechullpi_analog_snare_drum_strike(
     voice.strike(accent).into()
 }
 
-// Refused by 2, 3 and 5.
+// A block without a trigger. Refused by 2, 3 and 5.
 #[unsafe(no_mangle)]
 pub extern "C" fn bechullpi_analog_snare_drum_run(
     voice: AnalogSnareDrum,

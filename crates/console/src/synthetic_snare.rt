@@ -43,22 +43,7 @@ pub extern "C" fn bechullpi_synthetic_snare_drum_init(
     voice.init(sample_rate_hz).into()
 }
 
-// Refused by 1, of the rate that the voice stores, 2, 3, 4 and 5.
-#[unsafe(no_mangle)]
-pub extern "C" fn bechullpi_synthetic_snare_drum_render(
-    voice: SyntheticSnareDrum,
-    trigger: bool,
-    knobs: Knobs,
-    out: &mut [f32],
-) -> SyntheticSnareDrumAnswered
-    ensures number { result.number ≡ (spec.render voice trigger knobs out.old).number }
-    ensures voice { result.voice ≡ (spec.render voice trigger knobs out.old).state }
-    ensures out { out.new ≡ (spec.render voice trigger knobs out.old).out }
-{
-    voice.render(trigger, knobs, out).into()
-}
-
-// Refused by 1, of the rate that the voice stores, 4 and 5.
+// What a trigger does and nothing else: it renders no sample, sets no filter and draws no noise. Refused by 1, of the rate that the voice stores, 4 and 5.
 #[unsafe(no_mangle)]
 pub extern "C" fn bechullpi_synthetic_snare_drum_strike(
     voice: SyntheticSnareDrum,
@@ -71,7 +56,7 @@ pub extern "C" fn bechullpi_synthetic_snare_drum_strike(
     voice.strike(accent, decay).into()
 }
 
-// Refused by 1, of the rate that the voice stores, 2, 3, 4 and 5.
+// A block without a trigger. Refused by 1, of the rate that the voice stores, 2, 3, 4 and 5.
 #[unsafe(no_mangle)]
 pub extern "C" fn bechullpi_synthetic_snare_drum_run(
     voice: SyntheticSnareDrum,

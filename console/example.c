@@ -1,34 +1,69 @@
-// A console in small: a stick, and a sound loop that renders blocks of 64 samples with the four voices, adds them, limits the sum and hands it out. It is the
-// model of how the library is used. console/recorded/example is what it printed, and has to print: that file comes from the library itself, so it shows that
-// records cross whole and that nothing has changed; that the samples are right is shown by the proofs and by oracle/.
+// A console in small: a stick, which knows when, and a sound loop, which knows how many. The stick queues strikes. The sound loop takes them at the start of a
+// block, strikes the four voices, runs each over 64 samples, adds them, limits the sum and hands it out. It is the model of how the library is used.
+// console/recorded/example is what it printed, and has to print: that file comes from the library itself, so it shows that records cross whole and that nothing
+// has changed; that the samples are right is shown by the proofs and by oracle/.
 #include "bechullpi.h"
 
 #include <inttypes.h>
+#include <stdatomic.h>
 #include <stdio.h>
 #include <string.h>
 
 enum { BLOCK = 64, BLOCKS = 750 }; // a second
 enum { CUE = 14400 };              // 0.3 seconds
 static const float RATE = 48000.0f;
+static const float DECAY = 0.4f; // of the synthetic snare and the hi-hat on the ride, struck and run
 
-// What the console keeps between blocks: the records. Each voice that draws noise has the state of it in its own.
+// ---- the queue
+
+enum { BASS, SNARE, SYNTHETIC_SNARE, HIHAT, VOICES };
+
+// What a strike takes; the analog voices take no decay.
 typedef struct {
-    bechullpi_analog_bass_drum bass;
-    bechullpi_analog_snare_drum snare;
-    bechullpi_synthetic_snare_drum synthetic_snare;
-    bechullpi_hihat hihat;
-} kit;
+    float accent, decay;
+} strike;
+
+// All that the stick and the sound loop have in common: for each voice the strike that waits, and how fast the crawler went last. The stick alone puts, the
+// sound loop alone takes. A strike is one word, so nobody meets half of one, and there is no lock to wait for. A voice needs one place, so the queue is never
+// full: of accepted strikes with no run between them the last counts, so a new one takes the place of one that waits, and nothing that would be heard is lost.
+typedef struct {
+    _Atomic uint64_t waiting[VOICES];
+    _Atomic float speed;
+} queue;
+
+_Static_assert(sizeof(strike) == sizeof(uint64_t), "a strike is no word");
+_Static_assert(ATOMIC_LONG_LOCK_FREE == 2 && ATOMIC_INT_LOCK_FREE == 2, "an atomic word has a lock");
+
+static const uint64_t NOTHING = UINT64_MAX; // no accepted strike: it would be of two NaNs
+
+static void make_empty(queue *q)
+{
+    for (int voice = 0; voice < VOICES; voice++)
+        atomic_init(&q->waiting[voice], NOTHING);
+    atomic_init(&q->speed, 0.0f);
+}
+
+static void put(queue *q, int voice, strike s)
+{
+    uint64_t word;
+    memcpy(&word, &s, sizeof word);
+    atomic_store(&q->waiting[voice], word);
+}
+
+static bool take(queue *q, int voice, strike *s)
+{
+    uint64_t word = atomic_exchange(&q->waiting[voice], NOTHING);
+    memcpy(s, &word, sizeof word);
+    return word != NOTHING;
+}
+
+// ---- the stick's side
 
 // The stick, asked once a block: what the crawler met, and how fast it went, from 0 to 1.
 typedef struct {
     bool joint, grit, stone, slip;
     float speed;
 } stick;
-
-typedef struct {
-    uint32_t digest, limited;
-    float largest;
-} heard;
 
 // A ride on paper in the place of a real one.
 static stick read_stick(int block)
@@ -42,6 +77,42 @@ static stick read_stick(int block)
     };
 }
 
+static float accent_at(float speed)
+{
+    return 0.5f + 0.5f * speed;
+}
+
+// No record is here, and no call of a voice: they are the sound loop's.
+static void move_stick(queue *q, int block)
+{
+    stick now = read_stick(block);
+    strike s = {.accent = accent_at(now.speed), .decay = DECAY};
+    atomic_store(&q->speed, now.speed);
+    if (now.joint)
+        put(q, BASS, s);
+    if (now.grit)
+        put(q, SNARE, s);
+    if (now.stone)
+        put(q, SYNTHETIC_SNARE, s);
+    if (now.slip)
+        put(q, HIHAT, s);
+}
+
+// ---- the sound loop's side
+
+// What the sound loop keeps between blocks: the records. Each voice that draws noise has the state of it in its own.
+typedef struct {
+    bechullpi_analog_bass_drum bass;
+    bechullpi_analog_snare_drum snare;
+    bechullpi_synthetic_snare_drum synthetic_snare;
+    bechullpi_hihat hihat;
+} kit;
+
+typedef struct {
+    uint32_t digest, limited;
+    float largest;
+} heard;
+
 // From the zero records. An answer other than 0 is a rate out of range: the kit is not to be played.
 static uint32_t start(kit *k)
 {
@@ -53,28 +124,49 @@ static uint32_t start(kit *k)
     return b.number ? b.number : s.number ? s.number : y.number ? y.number : h.number;
 }
 
-// One block of every voice, each into its own part. No voice hears of another; a refused call leaves record and part as they were.
-static uint32_t render(kit *k, stick now, float part[4][BLOCK])
+// The voices for which a strike waits, struck. A refused strike leaves the record as it was.
+static uint32_t strike_kit(kit *k, queue *q)
 {
-    float accent = 0.5f + 0.5f * now.speed;
-    bechullpi_analog_bass_drum_answered b = bechullpi_analog_bass_drum_render(
-        k->bass, now.joint, accent,
-        (bechullpi_analog_bass_drum_knobs){.f0 = 55.0f / RATE, .tone = 0.3f, .decay = 0.5f, .attack_fm_amount = 0.4f, .self_fm_amount = 0.2f},
-        part[0], BLOCK);
-    bechullpi_analog_snare_drum_answered s = bechullpi_analog_snare_drum_render(
-        k->snare, now.grit, accent,
-        (bechullpi_analog_snare_drum_knobs){.f0 = 180.0f / RATE, .tone = 0.4f, .decay = 0.3f, .snappy = 0.7f}, part[1], BLOCK);
-    bechullpi_synthetic_snare_drum_answered y = bechullpi_synthetic_snare_drum_render(
-        k->synthetic_snare, now.stone,
-        (bechullpi_synthetic_snare_drum_knobs){.accent = accent, .f0 = 210.0f / RATE, .fm_amount = 0.5f, .decay = 0.4f, .snappy = 0.8f},
-        part[2], BLOCK);
-    bechullpi_hihat_answered h = bechullpi_hihat_render(
-        k->hihat, now.slip, BECHULLPI_SWING_VCA,
-        (bechullpi_hihat_knobs){.accent = accent, .f0 = 420.0f / RATE, .tone = 0.6f, .decay = 0.4f, .noisiness = 0.5f, .resonance = true},
-        part[3], BLOCK);
+    bechullpi_analog_bass_drum_answered b = {0, k->bass};
+    bechullpi_analog_snare_drum_answered s = {0, k->snare};
+    bechullpi_synthetic_snare_drum_answered y = {0, k->synthetic_snare};
+    bechullpi_hihat_answered h = {0, k->hihat};
+    strike now;
+    if (take(q, BASS, &now))
+        b = bechullpi_analog_bass_drum_strike(k->bass, now.accent);
+    if (take(q, SNARE, &now))
+        s = bechullpi_analog_snare_drum_strike(k->snare, now.accent);
+    if (take(q, SYNTHETIC_SNARE, &now))
+        y = bechullpi_synthetic_snare_drum_strike(k->synthetic_snare, now.accent, now.decay);
+    if (take(q, HIHAT, &now))
+        h = bechullpi_hihat_strike(k->hihat, now.accent, now.decay);
     *k = (kit){b.voice, s.voice, y.voice, h.voice};
     return b.number ? b.number : s.number ? s.number : y.number ? y.number : h.number;
 }
+
+// One block of every voice, each into its own part. No voice hears of another; a refused run leaves record and part as they were.
+static uint32_t run_kit(kit *k, float speed, float part[VOICES][BLOCK])
+{
+    float accent = accent_at(speed);
+    bechullpi_analog_bass_drum_answered b = bechullpi_analog_bass_drum_run(
+        k->bass,
+        (bechullpi_analog_bass_drum_knobs){.f0 = 55.0f / RATE, .tone = 0.3f, .decay = 0.5f, .attack_fm_amount = 0.4f, .self_fm_amount = 0.2f},
+        part[BASS], BLOCK);
+    bechullpi_analog_snare_drum_answered s = bechullpi_analog_snare_drum_run(
+        k->snare, (bechullpi_analog_snare_drum_knobs){.f0 = 180.0f / RATE, .tone = 0.4f, .decay = 0.3f, .snappy = 0.7f}, part[SNARE], BLOCK);
+    bechullpi_synthetic_snare_drum_answered y = bechullpi_synthetic_snare_drum_run(
+        k->synthetic_snare,
+        (bechullpi_synthetic_snare_drum_knobs){.accent = accent, .f0 = 210.0f / RATE, .fm_amount = 0.5f, .decay = DECAY, .snappy = 0.8f},
+        part[SYNTHETIC_SNARE], BLOCK);
+    bechullpi_hihat_answered h = bechullpi_hihat_run(
+        k->hihat, BECHULLPI_SWING_VCA,
+        (bechullpi_hihat_knobs){.accent = accent, .f0 = 420.0f / RATE, .tone = 0.6f, .decay = DECAY, .noisiness = 0.5f, .resonance = true},
+        part[HIHAT], BLOCK);
+    *k = (kit){b.voice, s.voice, y.voice, h.voice};
+    return b.number ? b.number : s.number ? s.number : y.number ? y.number : h.number;
+}
+
+static const uint32_t FIRST_DIGEST = 2166136261u;
 
 static uint32_t digest(uint32_t h, float sample)
 {
@@ -84,10 +176,10 @@ static uint32_t digest(uint32_t h, float sample)
 }
 
 // The converter takes -1 to 1 and the voices do not keep to that: limit first.
-static void put_out(heard *to, float part[4][BLOCK])
+static void put_out(heard *to, float part[VOICES][BLOCK])
 {
     for (int i = 0; i < BLOCK; i++) {
-        float sum = part[0][i] + part[1][i] + part[2][i] + part[3][i];
+        float sum = part[BASS][i] + part[SNARE][i] + part[SYNTHETIC_SNARE][i] + part[HIHAT][i];
         float size = bechullpi_ieee754_abs(sum);
         to->limited += size > 1.0f;
         to->largest = bechullpi_ieee754_maximum_number(to->largest, size);
@@ -95,15 +187,32 @@ static void put_out(heard *to, float part[4][BLOCK])
     }
 }
 
+// What waits at the start of a block is struck, then the block is run.
+static uint32_t play_block(kit *k, queue *q, heard *to)
+{
+    static float part[VOICES][BLOCK];
+    uint32_t number = strike_kit(k, q);
+    if (number == 0)
+        number = run_kit(k, atomic_load(&q->speed), part);
+    if (number == 0)
+        put_out(to, part);
+    return number;
+}
+
+// ---- the ride
+
+// Both sides in turn, so that every ride sounds the same. They have nothing in common but the queue, and could as well run in two threads: `move_stick` when
+// the stick is read, `play_block` when the sound card wants a block.
 static uint32_t ride(kit *k)
 {
-    static float part[4][BLOCK];
-    heard all = {2166136261u, 0, 0.0f};
+    queue q;
+    heard all = {FIRST_DIGEST, 0, 0.0f};
+    make_empty(&q);
     for (int block = 0; block < BLOCKS; block++) {
-        uint32_t number = render(k, read_stick(block), part);
+        move_stick(&q, block);
+        uint32_t number = play_block(k, &q, &all);
         if (number != 0)
             return number;
-        put_out(&all, part);
     }
     printf("%d samples, digest %08" PRIx32 "\n", BLOCK * BLOCKS, all.digest);
     printf("noise %08" PRIx32 ", %08" PRIx32 " and %08" PRIx32 "\n", k->snare.noise, k->synthetic_snare.noise, k->hihat.noise);
@@ -111,30 +220,73 @@ static uint32_t ride(kit *k)
     return 0;
 }
 
+// ---- single calls
+
+static uint32_t digest_of(const float *samples, size_t count)
+{
+    uint32_t h = FIRST_DIGEST;
+    for (size_t i = 0; i < count; i++)
+        h = digest(h, samples[i]);
+    return h;
+}
+
 // What an unfit call does: here accent is above 1.
 static void be_refused(const kit *k)
 {
     float out[BLOCK] = {0.25f}, before[BLOCK] = {0.25f};
     bechullpi_hihat_knobs knobs = {.accent = 1.5f, .f0 = 0.01f, .tone = 0.5f, .decay = 0.5f, .noisiness = 0.5f};
-    bechullpi_hihat_answered h = bechullpi_hihat_render(k->hihat, true, BECHULLPI_LINEAR_VCA, knobs, out, BLOCK);
+    bechullpi_hihat_answered h = bechullpi_hihat_run(k->hihat, BECHULLPI_LINEAR_VCA, knobs, out, BLOCK);
     bool kept = memcmp(&h.voice, &k->hihat, sizeof h.voice) == 0 && memcmp(out, before, sizeof out) == 0;
     printf("an accent of 1.5 is refused by %" PRIu32 "; the rest is %s\n", h.number, kept ? "as it was" : "CHANGED");
 }
 
-// One cue in blocks of a length, the last one shorter where that does not divide: the first block is triggered, the others are not, the knobs stay, and
-// the record is handed on. Nothing is sustained, so it is the same cue at every length from 1 to 16,384.
+static bechullpi_hihat_knobs hiss(void)
+{
+    return (bechullpi_hihat_knobs){.accent = 0.8f, .f0 = 420.0f / RATE, .tone = 0.6f, .decay = 0.6f, .noisiness = 0.5f, .resonance = true};
+}
+
+static bechullpi_hihat_answered struck(void)
+{
+    bechullpi_hihat_answered h = bechullpi_hihat_init(bechullpi_hihat_zero(), RATE);
+    return h.number ? h : bechullpi_hihat_strike(h.voice, hiss().accent, hiss().decay);
+}
+
+// A strike, a run that is refused, and a good run: the strike stands, so the good run sounds as if it came straight after the strike.
+static void be_refused_once_struck(void)
+{
+    float late[BLOCK] = {0.0f}, straight[BLOCK] = {0.0f};
+    bechullpi_hihat_knobs unfit = hiss();
+    unfit.f0 = 0.75f;
+    bechullpi_hihat_answered h = struck();
+    bechullpi_hihat_answered refused = bechullpi_hihat_run(h.voice, BECHULLPI_SWING_VCA, unfit, late, BLOCK);
+    bechullpi_hihat_answered good = bechullpi_hihat_run(refused.voice, BECHULLPI_SWING_VCA, hiss(), late, BLOCK);
+    bechullpi_hihat_answered alone = bechullpi_hihat_run(h.voice, BECHULLPI_SWING_VCA, hiss(), straight, BLOCK);
+    printf("a strike is answered %" PRIu32 ", and a run at f0 0.75 is refused by %" PRIu32 "\n", h.number, refused.number);
+    printf("the run after that is answered %" PRIu32 ": digest %08" PRIx32 "\n", good.number, digest_of(late, BLOCK));
+    printf("straight after the strike it is answered %" PRIu32 ": digest %08" PRIx32 "\n", alone.number, digest_of(straight, BLOCK));
+}
+
+// Why the queue has one place for a voice: here the first of two strikes is louder and shorter than the second.
+static void be_struck_twice(void)
+{
+    bechullpi_hihat_answered once = struck();
+    bechullpi_hihat_answered first = bechullpi_hihat_strike(once.voice, 1.0f, 0.1f);
+    bechullpi_hihat_answered second = bechullpi_hihat_strike(first.voice, hiss().accent, hiss().decay);
+    bool same = memcmp(&second.voice, &once.voice, sizeof once.voice) == 0;
+    printf("two strikes in a row leave %s\n", same ? "what the last leaves alone" : "SOMETHING ELSE");
+}
+
+// One cue in blocks of a length, the last one shorter where that does not divide: a strike, and then runs with the same knobs, the record handed on. Nothing is
+// sustained, so it is the same cue at every length from 1 to 16,384.
 static void play_cue(size_t length)
 {
     static float out[CUE];
-    bechullpi_hihat_knobs knobs = {.accent = 0.8f, .f0 = 420.0f / RATE, .tone = 0.6f, .decay = 0.6f, .noisiness = 0.5f, .resonance = true};
-    bechullpi_hihat_answered h = bechullpi_hihat_init(bechullpi_hihat_zero(), RATE);
+    bechullpi_hihat_answered h = struck();
     for (size_t at = 0; at < CUE && h.number == 0; at += length) {
         size_t left = CUE - at;
-        h = bechullpi_hihat_render(h.voice, at == 0, BECHULLPI_SWING_VCA, knobs, out + at, left < length ? left : length);
+        h = bechullpi_hihat_run(h.voice, BECHULLPI_SWING_VCA, hiss(), out + at, left < length ? left : length);
     }
-    uint32_t d = 2166136261u;
-    for (int i = 0; i < CUE; i++)
-        d = digest(d, out[i]);
+    uint32_t d = digest_of(out, CUE);
     printf("a cue in blocks of %zu is answered %" PRIu32 ": digest %08" PRIx32 ", noise %08" PRIx32 "\n", length, h.number, d, h.voice.noise);
 }
 
@@ -145,11 +297,9 @@ static void play_sheet(void)
                                 "0,b,3f666666,3a962fc9,3eb33333,3f0ccccd,3ecccccd\n"
                                 "7200,b,3f000000,3a8dfea2,3e99999a,3ee66666,3e4ccccd\n";
     static float out[16384];
-    uint32_t h = 2166136261u;
     bechullpi_sheet_answered a = bechullpi_sheet((const uint8_t *)sheet, sizeof sheet - 1, out, 16384);
-    for (uint32_t i = 0; i < a.length; i++)
-        h = digest(h, out[i]);
-    printf("a sheet is answered %" PRIu32 ": %" PRIu32 " cues, %" PRIu32 " samples, digest %08" PRIx32 "\n", a.number, a.cues, a.length, h);
+    uint32_t d = digest_of(out, a.length);
+    printf("a sheet is answered %" PRIu32 ": %" PRIu32 " cues, %" PRIu32 " samples, digest %08" PRIx32 "\n", a.number, a.cues, a.length, d);
 }
 
 int main(void)
@@ -163,6 +313,8 @@ int main(void)
         return 1;
     }
     be_refused(&k);
+    be_refused_once_struck();
+    be_struck_twice();
     play_cue(64);
     play_cue(441);
     play_cue(CUE);

@@ -18,9 +18,8 @@
 // The decay of a strike says how long the noise of a synthetic snare holds before it fades, from 40 to 70 milliseconds, and how high the
 // envelope of a hi-hat begins: a longer decay begins lower. The knobs of a run need not be those of the strike. Their decay says how fast
 // the sound fades in that run; accent, which a synthetic snare and a hi-hat have among them, counts only where the run sustains.
-// Of strikes with no run between them the last accepted one counts, as if there had been no other.
 // Where no call is refused, a strike and then a run with the same knobs are the Rust's `render` with its trigger set, and a run alone is
-// the one without. This is proved.
+// the one without. Of strikes with no run between them the last accepted one counts, as if there had been no other. Both are proved.
 //
 // THREADS
 // One thread at a time owns a record; calls with different records may run at once. The stick's thread knows when a sound begins, the

@@ -6,8 +6,8 @@ use lib.Ieee.{Float}
 use Rattle.refusal.specs.Refusal.{ask, is_block_length, is_frequency, is_unit}
 use Rattle.refusal.proofs.Rows.{accepted}
 use Rattle.refusal.proofs.StrikeAndRun.{asked_in_two}
-use Rattle.analog_bass_drum.specs.AnalogBassDrum.{knobs_refusal, run_refusal, render_refusal}
-use Rattle.analog_bass_drum.specs.StrikeThenRun.{StrikeThenRun}
+use Rattle.analog_bass_drum.specs.AnalogBassDrum.{triggered, knobs_refusal, run_refusal, render_refusal}
+use Rattle.analog_bass_drum.specs.StrikeThenRun.{StrikeThenRun, LastStrikeCounts}
 use Rattle.analog_bass_drum.specs.declared.Knobs.{Knobs}
 
 questions : (accent : Float) (k : Knobs) (n : ℕ)
@@ -23,3 +23,7 @@ strike_then_run v accent k = record {
   untriggered = λ out h. rw (h, ((questions accent k (length out)).0 h).1);
   stands = λ out n h. rw h;
 }
+
+pub last_strike_counts : LastStrikeCounts
+unfolding triggered
+last_strike_counts v first last h h' = rw (h, h')

@@ -5,7 +5,7 @@ use Rattle.refusal.specs.Refusal.{is_sample_rate, is_block_length, is_frequency,
 use Rattle.refusal.proofs.Rows.{accepted}
 use Rattle.refusal.proofs.StrikeAndRun.{asked_again}
 use Rattle.hihat.specs.Hihat.{triggered, strike, settings, run_refusal}
-use Rattle.hihat.specs.StrikeThenRun.{StrikeThenRun}
+use Rattle.hihat.specs.StrikeThenRun.{StrikeThenRun, LastStrikeCounts}
 use Rattle.hihat.specs.declared.Knobs.{Knobs}
 use Rattle.hihat.proofs.Rate.{strike_keeps_rate}
 
@@ -21,3 +21,7 @@ strike_then_run v kind k = record {
   untriggered = λ out h. refl;
   stands = λ out n h. rw h;
 }
+
+pub last_strike_counts : LastStrikeCounts
+unfolding triggered
+last_strike_counts v first last h h' = rw (h, h')

@@ -8,7 +8,7 @@ use Rattle.refusal.specs.Refusal.{is_sample_rate, is_block_length, is_frequency,
 use Rattle.refusal.proofs.Rows.{accepted}
 use Rattle.refusal.proofs.StrikeAndRun.{asked_again}
 use Rattle.synthetic_snare_drum.specs.SyntheticSnareDrum.{triggered, strike, settings, tuned, run_refusal}
-use Rattle.synthetic_snare_drum.specs.StrikeThenRun.{StrikeThenRun}
+use Rattle.synthetic_snare_drum.specs.StrikeThenRun.{StrikeThenRun, LastStrikeCounts}
 use Rattle.synthetic_snare_drum.specs.declared.Knobs.{Knobs}
 use Rattle.synthetic_snare_drum.proofs.Rate.{strike_keeps_rate}
 
@@ -24,3 +24,7 @@ strike_then_run v k = record {
   untriggered = λ out h. refl;
   stands = λ out n h. rw h;
 }
+
+pub last_strike_counts : LastStrikeCounts
+unfolding triggered
+last_strike_counts v first last h h' = rw (h, h')

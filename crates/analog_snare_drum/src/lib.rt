@@ -189,7 +189,7 @@ impl AnalogSnareDrum {
             let turn = voice.step(settings, e);
             *sample = turn.sample;
             voice = turn.next;
-            // With the two lines below under `if !at_rest` the compiler pairs the filters' products worse: a third more instructions a sample than the 149 of this form.
+            // With the two lines below under `if !at_rest` the compiler paired the filters' products worse when it was tried: a third more instructions a sample.
             if at_rest {
                 continue;
             }
@@ -318,6 +318,8 @@ fn not_negative(noise: f32) -> f32
     if noise < 0.0 { 0.0 } else { noise }
 }
 
+// A function by itself: with it written out in `run`, five times, the compiler pairs the filters' products in the loop worse (docs/DECISIONS.md).
+#[inline(never)]
 fn tuned_mode(resonator: Svf, f0: f32, mode_frequency: f32, q: f32) -> Svf
     ensures { result ≡ spec.tuned_mode resonator f0 mode_frequency q }
 {

@@ -77,7 +77,7 @@
 //
 // STACK
 // A call takes at most BECHULLPI_STACK_.. bytes, as below, of its caller's stack, arguments and answer included. console/stack.c measures
-// on memory that is painted before each call: some 140 bytes for a number or a filter, 1,400 for a voice, 67,300 for a sheet (gcc 12, the
+// on memory that is painted before each call: some 140 bytes for a number or a filter, 1,450 for a voice, 67,300 for a sheet (gcc 12, the
 // library as console/build makes it). It fails where a figure is passed. What is above that is room for the dynamic linker: binding memcpy
 // on its first call took 2,600 bytes more.
 #ifndef BECHULLPI_H

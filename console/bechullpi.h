@@ -13,8 +13,8 @@
 // and runs. A record may hold any patterns, but a bool is 0 or 1.
 //
 // STRIKES AND RUNS
-// A sound is a strike and then runs. `strike` does what a trigger does and nothing else: it takes accent, and for a synthetic snare or a
-// hi-hat decay, and renders no sample. `run` renders a block without a trigger: it takes the knobs and a buffer.
+// A sound is a strike and then runs. `strike` begins it and renders no sample: it takes accent, and for a synthetic snare or a hi-hat
+// decay. `run` renders a block of it: it takes the knobs and a buffer.
 // The decay of a strike says how long the noise of a synthetic snare holds before it fades, from 40 to 70 milliseconds, and how high the
 // envelope of a hi-hat begins: a longer decay begins lower. The knobs of a run need not be those of the strike. Their decay says how fast
 // the sound fades in that run; accent, which a synthetic snare and a hi-hat have among them, counts only where the run sustains.
@@ -25,8 +25,8 @@
 // One thread at a time owns a record; calls with different records may run at once. The stick's thread knows when a sound begins, the
 // sound loop's thread knows how many samples a block has, and the sound loop owns the records. So the stick does not call `strike`: it
 // puts accent and decay into a queue. At the start of a block the sound loop takes what is queued, strikes, and then runs. One place in
-// the queue is enough for a voice: a new strike may take the place of one that still waits, since the last one counts.
-// console/example.c has such a queue, without a lock.
+// the queue is enough for a voice: a new strike may take the place of one that still waits, since of accepted strikes the last counts. So
+// queue none that is out of range: it would push out one that would be heard. console/example.c has such a queue, without a lock.
 //
 // ANSWERS
 // A call that is not fit answers a number other than 0, and then the record and the buffer are as they were. Look at it after every call.
@@ -50,7 +50,8 @@
 //      analog snare     1      4         2, 3, 5
 //      synthetic snare  1      1, 4, 5   1, 2, 3, 4, 5
 //      hi-hat           1      1, 4, 5   1, 2, 3, 4, 5
-// A strike and a run ask 1 of the rate that the record holds from `init`, and a run asks 4 whether it sustains or not.
+// Where a strike or a run asks 1, it is of the rate that the record holds from `init`; where a run asks 4, it asks it whether it sustains
+// or not.
 // What answers no such number takes any value.
 //
 // SAMPLES ARE NOT LIMITED TO 1.0. A synthetic snare reached 110 in a sheet that is accepted. Limit before the converter.
@@ -374,10 +375,10 @@ bechullpi_analog_bass_drum bechullpi_analog_bass_drum_zero(void);
 // Refused by 1.
 bechullpi_analog_bass_drum_answered bechullpi_analog_bass_drum_init(bechullpi_analog_bass_drum voice, float sample_rate_hz);
 
-// What a trigger does and nothing else: it renders no sample, sets no filter and draws no noise. Refused by 4.
+// Begins a sound: it renders no sample, sets no filter and draws no noise. Refused by 4.
 bechullpi_analog_bass_drum_answered bechullpi_analog_bass_drum_strike(bechullpi_analog_bass_drum voice, float accent);
 
-// A block without a trigger. Refused by 2, 3 and 5.
+// Renders a block of it. Refused by 2, 3 and 5.
 bechullpi_analog_bass_drum_answered bechullpi_analog_bass_drum_run(
     bechullpi_analog_bass_drum voice, bechullpi_analog_bass_drum_knobs knobs, float *out, size_t out_length
 );
@@ -420,10 +421,10 @@ bechullpi_analog_snare_drum bechullpi_analog_snare_drum_zero(void);
 // Refused by 1.
 bechullpi_analog_snare_drum_answered bechullpi_analog_snare_drum_init(bechullpi_analog_snare_drum voice, float sample_rate_hz);
 
-// What a trigger does and nothing else: it renders no sample, sets no filter and draws no noise. Refused by 4.
+// Begins a sound: it renders no sample, sets no filter and draws no noise. Refused by 4.
 bechullpi_analog_snare_drum_answered bechullpi_analog_snare_drum_strike(bechullpi_analog_snare_drum voice, float accent);
 
-// A block without a trigger. Refused by 2, 3 and 5.
+// Renders a block of it. Refused by 2, 3 and 5.
 bechullpi_analog_snare_drum_answered bechullpi_analog_snare_drum_run(
     bechullpi_analog_snare_drum voice, bechullpi_analog_snare_drum_knobs knobs, float *out, size_t out_length
 );
@@ -478,13 +479,13 @@ bechullpi_synthetic_snare_drum_answered bechullpi_synthetic_snare_drum_init(
     bechullpi_synthetic_snare_drum voice, float sample_rate_hz
 );
 
-// What a trigger does and nothing else: it renders no sample, sets no filter and draws no noise. Refused by 1, of the rate that
-// the voice stores, 4 and 5.
+// Begins a sound: it renders no sample, sets no filter and draws no noise. Refused by 1, of the rate that the voice stores, 4 and
+// 5.
 bechullpi_synthetic_snare_drum_answered bechullpi_synthetic_snare_drum_strike(
     bechullpi_synthetic_snare_drum voice, float accent, float decay
 );
 
-// A block without a trigger. Refused by 1, of the rate that the voice stores, 2, 3, 4 and 5.
+// Renders a block of it. Refused by 1, of the rate that the voice stores, 2, 3, 4 and 5.
 bechullpi_synthetic_snare_drum_answered bechullpi_synthetic_snare_drum_run(
     bechullpi_synthetic_snare_drum voice, bechullpi_synthetic_snare_drum_knobs knobs, float *out, size_t out_length
 );
@@ -544,12 +545,12 @@ bechullpi_hihat bechullpi_hihat_zero(void);
 // Refused by 1.
 bechullpi_hihat_answered bechullpi_hihat_init(bechullpi_hihat voice, float sample_rate);
 
-// What a trigger does and nothing else: it renders no sample, sets no filter and draws no noise. Refused by 1, of the rate that
-// the voice stores, 4 and 5.
+// Begins a sound: it renders no sample, sets no filter and draws no noise. Refused by 1, of the rate that the voice stores, 4 and
+// 5.
 bechullpi_hihat_answered bechullpi_hihat_strike(bechullpi_hihat voice, float accent, float decay);
 
-// A block without a trigger. The VCA is the swing one unless `linear` is set. Refused by 1, of the rate that the voice stores, 2,
-// 3, 4 and 5.
+// Renders a block of it. The VCA is the swing one unless `linear` is set. Refused by 1, of the rate that the voice stores, 2, 3,
+// 4 and 5.
 bechullpi_hihat_answered bechullpi_hihat_run(
     bechullpi_hihat voice, bool linear, bechullpi_hihat_knobs knobs, float *out, size_t out_length
 );

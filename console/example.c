@@ -23,16 +23,16 @@ typedef struct {
     float accent, decay;
 } strike;
 
-// All that the stick and the sound loop have in common: for each voice the strike that waits, and how fast the crawler went last. The stick alone puts, the
-// sound loop alone takes. A strike is one word, so nobody meets half of one, and there is no lock to wait for. A voice needs one place, so the queue is never
-// full: of accepted strikes with no run between them the last counts, so a new one takes the place of one that waits, and nothing that would be heard is lost.
+// All that the stick and the sound loop have in common: for each voice the strike that waits. The stick alone puts, the sound loop alone takes. A strike is one
+// word, so nobody meets half of one, and there is no lock to wait for. A voice needs one place, so the queue is never full: of accepted strikes with no run
+// between them the last counts, so a new one takes the place of one that waits, and nothing that would be heard is lost. What is put must be in range: a strike
+// that will be refused would take the place of one that would be heard.
 typedef struct {
     _Atomic uint64_t waiting[VOICES];
-    _Atomic float speed;
 } queue;
 
-_Static_assert(sizeof(strike) == sizeof(uint64_t), "a strike is no word");
-_Static_assert(ATOMIC_LONG_LOCK_FREE == 2 && ATOMIC_INT_LOCK_FREE == 2, "an atomic word has a lock");
+_Static_assert(sizeof(strike) == sizeof(uint64_t), "a strike is one word");
+_Static_assert(ATOMIC_LONG_LOCK_FREE == 2, "an atomic word needs no lock");
 
 static const uint64_t NOTHING = UINT64_MAX; // no accepted strike: it would be of two NaNs
 
@@ -40,7 +40,6 @@ static void make_empty(queue *q)
 {
     for (int voice = 0; voice < VOICES; voice++)
         atomic_init(&q->waiting[voice], NOTHING);
-    atomic_init(&q->speed, 0.0f);
 }
 
 static void put(queue *q, int voice, strike s)
@@ -77,17 +76,11 @@ static stick read_stick(int block)
     };
 }
 
-static float accent_at(float speed)
-{
-    return 0.5f + 0.5f * speed;
-}
-
 // No record is here, and no call of a voice: they are the sound loop's.
 static void move_stick(queue *q, int block)
 {
     stick now = read_stick(block);
-    strike s = {.accent = accent_at(now.speed), .decay = DECAY};
-    atomic_store(&q->speed, now.speed);
+    strike s = {.accent = 0.5f + 0.5f * now.speed, .decay = DECAY};
     if (now.joint)
         put(q, BASS, s);
     if (now.grit)
@@ -144,10 +137,10 @@ static uint32_t strike_kit(kit *k, queue *q)
     return b.number ? b.number : s.number ? s.number : y.number ? y.number : h.number;
 }
 
-// One block of every voice, each into its own part. No voice hears of another; a refused run leaves record and part as they were.
-static uint32_t run_kit(kit *k, float speed, float part[VOICES][BLOCK])
+// One block of every voice, each into its own part. No voice hears of another; a refused run leaves record and part as they were. Accent is asked of y and h in
+// every run, and makes a difference only in one that sustains: none does here.
+static uint32_t run_kit(kit *k, float part[VOICES][BLOCK])
 {
-    float accent = accent_at(speed);
     bechullpi_analog_bass_drum_answered b = bechullpi_analog_bass_drum_run(
         k->bass,
         (bechullpi_analog_bass_drum_knobs){.f0 = 55.0f / RATE, .tone = 0.3f, .decay = 0.5f, .attack_fm_amount = 0.4f, .self_fm_amount = 0.2f},
@@ -156,11 +149,11 @@ static uint32_t run_kit(kit *k, float speed, float part[VOICES][BLOCK])
         k->snare, (bechullpi_analog_snare_drum_knobs){.f0 = 180.0f / RATE, .tone = 0.4f, .decay = 0.3f, .snappy = 0.7f}, part[SNARE], BLOCK);
     bechullpi_synthetic_snare_drum_answered y = bechullpi_synthetic_snare_drum_run(
         k->synthetic_snare,
-        (bechullpi_synthetic_snare_drum_knobs){.accent = accent, .f0 = 210.0f / RATE, .fm_amount = 0.5f, .decay = DECAY, .snappy = 0.8f},
+        (bechullpi_synthetic_snare_drum_knobs){.accent = 1.0f, .f0 = 210.0f / RATE, .fm_amount = 0.5f, .decay = DECAY, .snappy = 0.8f},
         part[SYNTHETIC_SNARE], BLOCK);
     bechullpi_hihat_answered h = bechullpi_hihat_run(
         k->hihat, BECHULLPI_SWING_VCA,
-        (bechullpi_hihat_knobs){.accent = accent, .f0 = 420.0f / RATE, .tone = 0.6f, .decay = DECAY, .noisiness = 0.5f, .resonance = true},
+        (bechullpi_hihat_knobs){.accent = 1.0f, .f0 = 420.0f / RATE, .tone = 0.6f, .decay = DECAY, .noisiness = 0.5f, .resonance = true},
         part[HIHAT], BLOCK);
     *k = (kit){b.voice, s.voice, y.voice, h.voice};
     return b.number ? b.number : s.number ? s.number : y.number ? y.number : h.number;
@@ -187,16 +180,16 @@ static void put_out(heard *to, float part[VOICES][BLOCK])
     }
 }
 
-// What waits at the start of a block is struck, then the block is run.
+// What waits at the start of a block is struck, then the block is run. A refused strike leaves its record as it was, so the block is run all the same; one whose
+// run is refused is not handed out, and a console would hand out silence in its place.
 static uint32_t play_block(kit *k, queue *q, heard *to)
 {
     static float part[VOICES][BLOCK];
-    uint32_t number = strike_kit(k, q);
-    if (number == 0)
-        number = run_kit(k, atomic_load(&q->speed), part);
-    if (number == 0)
+    uint32_t struck = strike_kit(k, q);
+    uint32_t ran = run_kit(k, part);
+    if (ran == 0)
         put_out(to, part);
-    return number;
+    return struck ? struck : ran;
 }
 
 // ---- the ride
@@ -269,10 +262,11 @@ static void be_refused_once_struck(void)
 // Why the queue has one place for a voice: here the first of two strikes is louder and shorter than the second.
 static void be_struck_twice(void)
 {
-    bechullpi_hihat_answered once = struck();
-    bechullpi_hihat_answered first = bechullpi_hihat_strike(once.voice, 1.0f, 0.1f);
+    bechullpi_hihat_answered unstruck = bechullpi_hihat_init(bechullpi_hihat_zero(), RATE);
+    bechullpi_hihat_answered first = bechullpi_hihat_strike(unstruck.voice, 1.0f, 0.1f);
     bechullpi_hihat_answered second = bechullpi_hihat_strike(first.voice, hiss().accent, hiss().decay);
-    bool same = memcmp(&second.voice, &once.voice, sizeof once.voice) == 0;
+    bechullpi_hihat_answered alone = struck();
+    bool same = memcmp(&second.voice, &alone.voice, sizeof alone.voice) == 0;
     printf("two strikes in a row leave %s\n", same ? "what the last leaves alone" : "SOMETHING ELSE");
 }
 

@@ -1,11 +1,11 @@
 -- `render` asks what the two calls ask, and where all is passed the block is the same.
-use mathlib.Core.Path.{◌≡◌}
+use mathlib.Core.Path.{◌≡◌, refl}
 use Prim.Native.Nat.{ℕ}
 use lib.ListN.{length}
 use lib.Ieee.{Float}
 use Rattle.refusal.specs.Refusal.{ask, is_block_length, is_frequency, is_unit}
 use Rattle.refusal.proofs.Rows.{accepted}
-use Rattle.refusal.proofs.StrikeAndRun.{asked_in_two}
+use Rattle.refusal.proofs.StrikeAndRun.{asked_in_two, last_counts}
 use Rattle.analog_bass_drum.specs.AnalogBassDrum.{triggered, knobs_refusal, run_refusal, render_refusal}
 use Rattle.analog_bass_drum.specs.StrikeThenRun.{StrikeThenRun, LastStrikeCounts}
 use Rattle.analog_bass_drum.specs.declared.Knobs.{Knobs}
@@ -26,4 +26,4 @@ strike_then_run v accent k = record {
 
 pub last_strike_counts : LastStrikeCounts
 unfolding triggered
-last_strike_counts v first last h h' = rw (h, h')
+last_strike_counts = last_counts (λ v accent. ask (is_unit accent) 4 0) triggered (λ v first last. refl) (λ v first last. refl)

@@ -175,7 +175,7 @@ impl AnalogSnareDrum {
     }
 
     // The loop over the block. A `for` and not `block::pass`, whose turn may be asked of any state: this one asks that e be the excitation of its voice.
-    // A struct of the two with that fact as its invariant was tried, and proved: 154 instructions a sample at best, not 149, and 170 in blocks of 64, not 160.
+    // A struct of the two with that fact as its invariant was tried, and proved: 154 instructions a sample at best where the loop had 149 then, and 170 in blocks of 64 for 160.
     fn fill(self, settings: Settings, out: &mut [f32]) -> Self
         ensures voice { result ≡ after (spec.step settings) (length out.old) self }
         ensures out { out.new ≡ samples (spec.step settings) (length out.old) self }

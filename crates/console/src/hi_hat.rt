@@ -44,7 +44,7 @@ pub extern "C" fn bechullpi_hihat_init(voice: Hihat, sample_rate: f32) -> HihatA
     voice.init(sample_rate).into()
 }
 
-// What a trigger does and nothing else: it renders no sample, sets no filter and draws no noise. Refused by 1, of the rate that the voice stores, 4 and 5.
+// Begins a sound: it renders no sample, sets no filter and draws no noise. Refused by 1, of the rate that the voice stores, 4 and 5.
 #[unsafe(no_mangle)]
 pub extern "C" fn bechullpi_hihat_strike(voice: Hihat, accent: f32, decay: f32) -> HihatAnswered
     ensures number { result.number ≡ (spec.strike voice accent decay).number }
@@ -53,7 +53,7 @@ pub extern "C" fn bechullpi_hihat_strike(voice: Hihat, accent: f32, decay: f32) 
     voice.strike(accent, decay).into()
 }
 
-// A block without a trigger. The VCA is the swing one unless `linear` is set. Refused by 1, of the rate that the voice stores, 2, 3, 4 and 5.
+// Renders a block of it. The VCA is the swing one unless `linear` is set. Refused by 1, of the rate that the voice stores, 2, 3, 4 and 5.
 #[unsafe(no_mangle)]
 pub extern "C" fn bechullpi_hihat_run(
     voice: Hihat,

@@ -43,7 +43,7 @@ pub extern "C" fn bechullpi_analog_snare_drum_init(
     voice.init(sample_rate_hz).into()
 }
 
-// What a trigger does and nothing else: it renders no sample, sets no filter and draws no noise. Refused by 4.
+// Begins a sound: it renders no sample, sets no filter and draws no noise. Refused by 4.
 #[unsafe(no_mangle)]
 pub extern "C" fn bechullpi_analog_snare_drum_strike(
     voice: AnalogSnareDrum,
@@ -55,7 +55,7 @@ pub extern "C" fn bechullpi_analog_snare_drum_strike(
     voice.strike(accent).into()
 }
 
-// A block without a trigger. Refused by 2, 3 and 5.
+// Renders a block of it. Refused by 2, 3 and 5.
 #[unsafe(no_mangle)]
 pub extern "C" fn bechullpi_analog_snare_drum_run(
     voice: AnalogSnareDrum,

@@ -43,7 +43,7 @@ pub extern "C" fn bechullpi_synthetic_snare_drum_init(
     voice.init(sample_rate_hz).into()
 }
 
-// What a trigger does and nothing else: it renders no sample, sets no filter and draws no noise. Refused by 1, of the rate that the voice stores, 4 and 5.
+// Begins a sound: it renders no sample, sets no filter and draws no noise. Refused by 1, of the rate that the voice stores, 4 and 5.
 #[unsafe(no_mangle)]
 pub extern "C" fn bechullpi_synthetic_snare_drum_strike(
     voice: SyntheticSnareDrum,
@@ -56,7 +56,7 @@ pub extern "C" fn bechullpi_synthetic_snare_drum_strike(
     voice.strike(accent, decay).into()
 }
 
-// A block without a trigger. Refused by 1, of the rate that the voice stores, 2, 3, 4 and 5.
+// Renders a block of it. Refused by 1, of the rate that the voice stores, 2, 3, 4 and 5.
 #[unsafe(no_mangle)]
 pub extern "C" fn bechullpi_synthetic_snare_drum_run(
     voice: SyntheticSnareDrum,

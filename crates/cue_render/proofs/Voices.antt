@@ -1,4 +1,4 @@
--- The four voices may be played by a sheet: with knobs that have passed their questions they refuse no call, and a block in two is the whole block.
+-- The four voices may be played by a sheet: with knobs that have passed their questions they refuse no call, and a run in two is the whole run.
 use Prim.Native.Char.{code}
 use mathlib.Core.Path.{◌≡◌, refl, ap, ◌∙◌}
 use mathlib.Core.Bool.{Bool, true}

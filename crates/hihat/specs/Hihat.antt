@@ -1,5 +1,5 @@
 -- drums/hihat.rs: `Hihat`, statement by statement, for `NoiseType::Square`. Definitions only.
-use Rattle.std.specs.Prelude.{ℕ, Bool, false, cond, not, ◌||◌, List, [], length, Float}
+use Rattle.std.specs.Prelude.{ℕ, Bool, cond, not, ◌||◌, List, [], length, Float}
 use Rattle.std.specs.Float.Ieee.{neg, le, lt}
 use Rattle.ieee754.specs.Single.{◌⊕◌, ◌⊖◌, ◌⊗◌, ◌⊘◌, decimal}
 use Rattle.ieee754.specs.Operations.{abs, clamp}
@@ -200,7 +200,7 @@ passes b p =
 
 -- ---- render: the call
 
--- the number of the first question that is not passed; 0 where all are. A run asks them too, accent among them
+-- the number of the first question that is not passed, of `render` and of a run alike; 0 where all are
 unfoldable pub run_refusal : Float → Knobs → ℕ → ℕ
 run_refusal sample_rate k samples =
     ask (is_sample_rate sample_rate) 1
@@ -225,4 +225,7 @@ abbrev pub strike : Hihat → Float → Float → Call Hihat
 strike self accent decay = call (strike_refusal self.sample_rate accent decay) (triggered self accent decay) [] self []
 
 abbrev pub run : Hihat → VcaType → Knobs → List Float → Call Hihat
-run self vca_type k out = render self false vca_type k out
+run self vca_type k out =
+    let b = settings self vca_type k (length out) in
+    let p = passes b (record { state = self; out = out }) in
+    call (run_refusal self.sample_rate k (length out)) p.state p.out self out

@@ -1,9 +1,11 @@
--- A strike and a run ask together what a triggered `render` asks: the questions of a call that is accepted, asked in two.
+-- A strike and a run ask together what a triggered `render` asks: the questions of a call that is accepted, asked in two. And the last of two strikes counts.
 use mathlib.Core.Path.{◌≡◌, refl}
 use mathlib.Core.Bool.{Bool}
-use Prim.Native.Nat.{ℕ}
+use mathlib.Core.List.{[]}
+use Prim.Native.Nat.{ℕ, zero, suc}
 use native.Mathlib.Omega.{arith}
-use Rattle.refusal.specs.Refusal.{ask}
+use Rattle.refusal.specs.Refusal.{call, unless_refused, ask}
+use Rattle.refusal.specs.StrikeAndRun.{LastCounts}
 use Rattle.refusal.proofs.ByNumber.{passed}
 
 -- ---- a voice whose strike alone asks accent; n is what its other knobs give
@@ -30,3 +32,16 @@ asked_again rate size frequency accent first decay n h =
     let struck = passed accent 4 _ (omega arith) tuned.1 in
     let other = passed first 5 _ (omega arith) struck.1 in
     rw (rated.0, struck.0, (passed decay 5 n (omega arith) other.1).0)
+
+-- ---- a strike that asks nothing that a strike changes, and writes over all that a strike wrote
+pub last_counts : {State A : Type 0} (number : State → A → ℕ) (struck : State → A → State)
+    → ((v : State) (first last : A) → number (struck v first) last ≡ number v last)
+    → ((v : State) (first last : A) → struck (struck v first) last ≡ struck v last)
+    → LastCounts (λ v taken. call (number v taken) (struck v taken) [] v [])
+last_counts number struck asks writes v first last h = go (number v first)
+  where
+    go : (n : ℕ)
+        → let w = unless_refused n (struck v first) v in
+        call (number w last) (struck w last) [] w [] ≡ call (number v last) (struck v last) [] v []
+    go zero = rw (asks v first last, h, writes v first last)
+    go (suc n) = refl

@@ -14,7 +14,6 @@ pub record StrikeAndRun {State : Type 0} (v : State) (render : Bool → List Flo
   -- where the run is refused, the strike before it stands, and the buffer is as it was
   pub stands : (out : List Float) (n : ℕ) → (run strike.state out).number ≡ suc n → run strike.state out ≡ record { number = suc n; state = strike.state; out = out }
 
--- of two strikes with no run between them, each accepted of the voice as it was, the last counts, as if there had been no other; A is what a strike takes
+-- of two strikes with no run between them the last counts, if it is accepted of the voice as it was, as if there had been no other; A is what a strike takes
 abbrev pub LastCounts : {State A : Type 0} → (State → A → Call State) → Type 0
-LastCounts strike =
-    (v : _) (first last : _) → (strike v first).number ≡ 0 → (strike v last).number ≡ 0 → strike (strike v first).state last ≡ strike v last
+LastCounts strike = (v : _) (first last : _) → (strike v last).number ≡ 0 → strike (strike v first).state last ≡ strike v last

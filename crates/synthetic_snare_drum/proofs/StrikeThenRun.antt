@@ -6,7 +6,7 @@ use lib.ListN.{length}
 use lib.Ieee.{Float}
 use Rattle.refusal.specs.Refusal.{is_sample_rate, is_block_length, is_frequency, is_unit, strike_refusal}
 use Rattle.refusal.proofs.Rows.{accepted}
-use Rattle.refusal.proofs.StrikeAndRun.{asked_again}
+use Rattle.refusal.proofs.StrikeAndRun.{asked_again, last_counts}
 use Rattle.synthetic_snare_drum.specs.SyntheticSnareDrum.{triggered, strike, settings, tuned, run_refusal}
 use Rattle.synthetic_snare_drum.specs.StrikeThenRun.{StrikeThenRun, LastStrikeCounts}
 use Rattle.synthetic_snare_drum.specs.declared.Knobs.{Knobs}
@@ -27,4 +27,6 @@ strike_then_run v k = record {
 
 pub last_strike_counts : LastStrikeCounts
 unfolding triggered
-last_strike_counts v first last h h' = rw (h, h')
+last_strike_counts =
+    last_counts (λ v taken. strike_refusal v.sample_rate_hz taken.0 taken.1) (λ v taken. triggered v taken.0 taken.1)
+    (λ v first last. refl) (λ v first last. refl)

@@ -1,5 +1,5 @@
 -- drums/synthetic_snare_drum.rs, statement by statement, sustain included. Definitions only.
-use Rattle.std.specs.Prelude.{ℕ, ◌-◌, ◌^◌, Bool, false, cond, not, ◌||◌, List, [], ◌∷◌, eqb, length, get_or, Float}
+use Rattle.std.specs.Prelude.{ℕ, ◌-◌, ◌^◌, Bool, cond, not, ◌||◌, List, [], ◌∷◌, eqb, length, get_or, Float}
 use Rattle.std.specs.Int.Bits.{bit_and}
 use Rattle.std.specs.Float.{nan}
 use Rattle.std.specs.Float.Ieee.{neg, le, lt, to_unsigned}
@@ -189,7 +189,7 @@ step b size self =
 
 -- ---- render
 
--- the number of the first question that is not passed; 0 where all are. A run asks them too, accent among them
+-- the number of the first question that is not passed, of `render` and of a run alike; 0 where all are
 unfoldable pub run_refusal : Float → Knobs → ℕ → ℕ
 run_refusal sample_rate_hz k size =
     ask (is_sample_rate sample_rate_hz) 1
@@ -214,4 +214,8 @@ abbrev pub strike : SyntheticSnareDrum → Float → Float → Call SyntheticSna
 strike self accent decay = call (strike_refusal self.sample_rate_hz accent decay) (triggered self accent decay) [] self []
 
 abbrev pub run : SyntheticSnareDrum → Knobs → List Float → Call SyntheticSnareDrum
-run self k out = render self false k out
+run self k out =
+    let size = length out in
+    let b = settings self k size in
+    let voice = tuned self b in
+    call (run_refusal self.sample_rate_hz k size) (after (step b size) size voice) (samples (step b size) size voice) self out

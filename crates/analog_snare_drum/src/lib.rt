@@ -175,7 +175,7 @@ impl AnalogSnareDrum {
     }
 
     // The loop over the block. A `for` and not `block::pass`, whose turn may be asked of any state: this one asks that e be the excitation of its voice.
-    // A struct of the two with that fact as its invariant was tried, and proved: 154 instructions a sample at best where the loop had 149 then, and 170 in blocks of 64 for 160.
+    // A struct of the two with that fact as its invariant takes more instructions a sample (docs/DECISIONS.md).
     fn fill(self, settings: Settings, out: &mut [f32]) -> Self
         ensures voice { result ≡ after (spec.step settings) (length out.old) self }
         ensures out { out.new ≡ samples (spec.step settings) (length out.old) self }
@@ -189,7 +189,7 @@ impl AnalogSnareDrum {
             let turn = voice.step(settings, e);
             *sample = turn.sample;
             voice = turn.next;
-            // With the two lines below under `if !at_rest` the compiler paired the filters' products worse when it was tried: a third more instructions a sample.
+            // With the two lines below under `if !at_rest` the compiler pairs the filters' products worse (docs/DECISIONS.md).
             if at_rest {
                 continue;
             }

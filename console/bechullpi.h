@@ -563,6 +563,97 @@ bechullpi_square_noise bechullpi_hihat_square_noise_init(bechullpi_square_noise 
 bechullpi_square_noise bechullpi_hihat_square_noise_render(bechullpi_square_noise noise, float f0, float *out, size_t out_length);
 
 // -------------------------------------------------------------------------------------------------------------------------------
+// The click and the hiss of the synthetic bass drum, each by itself, and both over a block.
+
+typedef struct bechullpi_synthetic_bass_drum_click {
+    float sample_rate_hz;
+    float lp;
+    float hp;
+    bechullpi_svf filter;
+} bechullpi_synthetic_bass_drum_click;
+BECHULLPI_STATIC_ASSERT(sizeof(bechullpi_synthetic_bass_drum_click) == 32, "bechullpi_synthetic_bass_drum_click");
+
+// The number of the refusal, 0 for an accepted call, and the click after the call.
+typedef struct bechullpi_synthetic_bass_drum_click_answered {
+    uint32_t number;
+    bechullpi_synthetic_bass_drum_click click;
+} bechullpi_synthetic_bass_drum_click_answered;
+BECHULLPI_STATIC_ASSERT(sizeof(bechullpi_synthetic_bass_drum_click_answered) == 36, "bechullpi_synthetic_bass_drum_click_answered");
+
+typedef struct bechullpi_synthetic_bass_drum_attack_noise {
+    float lp;
+    float hp;
+} bechullpi_synthetic_bass_drum_attack_noise;
+BECHULLPI_STATIC_ASSERT(sizeof(bechullpi_synthetic_bass_drum_attack_noise) == 8, "bechullpi_synthetic_bass_drum_attack_noise");
+
+// The Rust's `transient`, click plus hiss, by itself, with the noise state that the hiss draws from.
+typedef struct bechullpi_synthetic_bass_drum_transient {
+    bechullpi_synthetic_bass_drum_click click;
+    bechullpi_synthetic_bass_drum_attack_noise attack_noise;
+    uint32_t noise;
+} bechullpi_synthetic_bass_drum_transient;
+BECHULLPI_STATIC_ASSERT(sizeof(bechullpi_synthetic_bass_drum_transient) == 44, "bechullpi_synthetic_bass_drum_transient");
+
+// The number of the refusal, 0 for an accepted call, and the transient after the call.
+typedef struct bechullpi_synthetic_bass_drum_transient_answered {
+    uint32_t number;
+    bechullpi_synthetic_bass_drum_transient transient;
+} bechullpi_synthetic_bass_drum_transient_answered;
+BECHULLPI_STATIC_ASSERT(sizeof(bechullpi_synthetic_bass_drum_transient_answered) == 48, "bechullpi_synthetic_bass_drum_transient_answered");
+
+// A click after one sample, and its output.
+typedef struct bechullpi_synthetic_bass_drum_click_output {
+    bechullpi_synthetic_bass_drum_click click;
+    float out;
+} bechullpi_synthetic_bass_drum_click_output;
+BECHULLPI_STATIC_ASSERT(sizeof(bechullpi_synthetic_bass_drum_click_output) == 36, "bechullpi_synthetic_bass_drum_click_output");
+
+// A hiss after one sample, the noise state after its draw, and its output.
+typedef struct bechullpi_synthetic_bass_drum_attack_noise_output {
+    bechullpi_synthetic_bass_drum_attack_noise attack_noise;
+    uint32_t noise;
+    float out;
+} bechullpi_synthetic_bass_drum_attack_noise_output;
+BECHULLPI_STATIC_ASSERT(sizeof(bechullpi_synthetic_bass_drum_attack_noise_output) == 16, "bechullpi_synthetic_bass_drum_attack_noise_output");
+
+// Every field zero, for `init` to overwrite.
+bechullpi_synthetic_bass_drum_click bechullpi_synthetic_bass_drum_click_zero(void);
+
+// Refused by 1.
+bechullpi_synthetic_bass_drum_click_answered bechullpi_synthetic_bass_drum_click_init(
+    bechullpi_synthetic_bass_drum_click click, float sample_rate_hz
+);
+
+// One sample. The click is what a rise of `in` from 0.0 to 1.0 gives.
+bechullpi_synthetic_bass_drum_click_output bechullpi_synthetic_bass_drum_click_process(
+    bechullpi_synthetic_bass_drum_click click, float in
+);
+
+bechullpi_synthetic_bass_drum_attack_noise bechullpi_synthetic_bass_drum_attack_noise_zero(void);
+
+bechullpi_synthetic_bass_drum_attack_noise bechullpi_synthetic_bass_drum_attack_noise_init(
+    bechullpi_synthetic_bass_drum_attack_noise attack_noise
+);
+
+// One sample. The noise state goes in and comes back; 33 is the one to begin with.
+bechullpi_synthetic_bass_drum_attack_noise_output bechullpi_synthetic_bass_drum_attack_noise_render(
+    bechullpi_synthetic_bass_drum_attack_noise attack_noise, uint32_t noise
+);
+
+// Every field zero, for `init` to overwrite.
+bechullpi_synthetic_bass_drum_transient bechullpi_synthetic_bass_drum_transient_zero(void);
+
+// Both parts, and the noise state at 33. Refused by 1.
+bechullpi_synthetic_bass_drum_transient_answered bechullpi_synthetic_bass_drum_transient_init(
+    bechullpi_synthetic_bass_drum_transient transient, float sample_rate_hz
+);
+
+// Renders a block, click plus hiss: the click is fed 0.0 for its first n samples and 1.0 afterwards. Refused by 2.
+bechullpi_synthetic_bass_drum_transient_answered bechullpi_synthetic_bass_drum_transient_render(
+    bechullpi_synthetic_bass_drum_transient transient, size_t n, float *out, size_t out_length
+);
+
+// -------------------------------------------------------------------------------------------------------------------------------
 // Cue sheets.
 
 // The answer to a sheet. An accepted one has number 0 and line 0; of a refused one rate, length and cues are 0.

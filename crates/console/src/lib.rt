@@ -12,4 +12,5 @@ mod min_max; // min_max.rt: the minimum and maximum operations, in both widths
 mod numbers; // numbers.rt: conversions, operations, noise, pitches and the small functions
 mod sheet; // sheet.rt: cue sheets
 mod snare; // snare.rt: AnalogSnareDrum
+mod synthetic_bass; // synthetic_bass.rt: the click and the hiss of the synthetic bass drum
 mod synthetic_snare; // synthetic_snare.rt: SyntheticSnareDrum

@@ -2,6 +2,7 @@
 use mi_plaits_dsp::drums::analog_bass_drum::AnalogBassDrum;
 use mi_plaits_dsp::drums::analog_snare_drum::AnalogSnareDrum;
 use mi_plaits_dsp::drums::hihat::{Hihat, NoiseType, VcaType};
+use mi_plaits_dsp::drums::synthetic_bass_drum::{SyntheticBassDrumAttackNoise, SyntheticBassDrumClick};
 use mi_plaits_dsp::drums::synthetic_snare_drum::SyntheticSnareDrum;
 use mi_plaits_dsp::utils::{random, units};
 use oracle::calls::Random;
@@ -32,6 +33,8 @@ const RATE: f32 = 48000.0;
 const BASS: Knobs = [0.8, 0.001, 0.4, 0.6, 0.5, 0.3];
 const SNARE: Knobs = [0.8, 0.004, 0.5, 0.6, 0.5, 0.0];
 const HIHAT: Knobs = [0.8, 0.01, 0.6, 0.7, 0.5, 0.0];
+/// For how many samples the click is fed 0.0: a millisecond, as the published bass drum does when it is triggered.
+const CLICK: usize = 48;
 
 pub fn jobs() -> Vec<Job> {
     let mut jobs = Vec::new();
@@ -40,18 +43,19 @@ pub fn jobs() -> Vec<Job> {
         jobs.push(voice("AnalogSnareDrum", block, SNARE, snare_port, snare_rust));
         jobs.push(voice("SyntheticSnareDrum", block, SNARE, synthetic_snare_port, synthetic_snare_rust));
         jobs.push(voice("Hihat", block, HIHAT, hihat_port, hihat_rust(block)));
+        jobs.push(voice("SyntheticBassDrumTransient", block, CLICK, transient_port, transient_rust));
     }
     jobs.extend([full_sheet(), ratios(), roots(), draws()]);
     jobs
 }
 
 /// A voice from its init, struck at the first of the blocks that make up `SAMPLES`. Both sides take the rate, the knobs, the number of blocks and the block.
-fn voice(
+fn voice<K: Copy + 'static>(
     name: &str,
     block: usize,
-    knobs: Knobs,
-    port: impl FnMut(f32, Knobs, u32, &mut [f32]) + 'static,
-    rust: impl FnMut(f32, Knobs, u32, &mut [f32]) + 'static,
+    knobs: K,
+    port: impl FnMut(f32, K, u32, &mut [f32]) + 'static,
+    rust: impl FnMut(f32, K, u32, &mut [f32]) + 'static,
 ) -> Job {
     let blocks = (SAMPLES / block) as u32;
     Job {
@@ -63,7 +67,7 @@ fn voice(
     }
 }
 
-fn run(blocks: u32, knobs: Knobs, mut side: impl FnMut(f32, Knobs, u32, &mut [f32]) + 'static) -> Run {
+fn run<K: Copy + 'static>(blocks: u32, knobs: K, mut side: impl FnMut(f32, K, u32, &mut [f32]) + 'static) -> Run {
     Box::new(move |out| side(black_box(RATE), black_box(knobs), black_box(blocks), out))
 }
 
@@ -148,6 +152,29 @@ fn hihat_rust(block: usize) -> impl FnMut(f32, Knobs, u32, &mut [f32]) {
             let (temp_1, temp_2) = (&mut temp_1, &mut temp_2);
             voice.render(sustain, i == 0, accent, f0, tone, decay, noisiness, temp_1, temp_2, out, noise, vca, resonance, two_stage);
         }
+    }
+}
+
+/// Click plus hiss: n is what is left of the samples for which the click is fed 0.0.
+fn transient_port(rate: f32, mut n: usize, blocks: u32, out: &mut [f32]) {
+    let mut transient = port::bechullpi_synthetic_bass_drum_transient_init(port::bechullpi_synthetic_bass_drum_transient_zero(), rate).transient;
+    for _ in 0..blocks {
+        transient = port::transient_render(transient, black_box(n), out).transient;
+        n = n.saturating_sub(out.len());
+    }
+}
+
+fn transient_rust(rate: f32, mut n: usize, blocks: u32, out: &mut [f32]) {
+    random::seed(NOISE);
+    let (mut click, mut noise) = (SyntheticBassDrumClick::new(), SyntheticBassDrumAttackNoise::new());
+    click.init(rate);
+    noise.init();
+    for _ in 0..blocks {
+        let now = black_box(n);
+        for (i, sample) in out.iter_mut().enumerate() {
+            *sample = click.process(if i < now { 0.0 } else { 1.0 }) + noise.render();
+        }
+        n = n.saturating_sub(out.len());
     }
 }
 

@@ -56,6 +56,10 @@ pub fn hihat_run(voice: Hihat, linear: bool, knobs: HihatKnobs, out: &mut [f32])
     unsafe { bechullpi_hihat_run(voice, linear, knobs, out.as_mut_ptr(), out.len()) }
 }
 
+pub fn transient_render(transient: SyntheticBassDrumTransient, n: usize, out: &mut [f32]) -> SyntheticBassDrumTransientAnswered {
+    unsafe { bechullpi_synthetic_bass_drum_transient_render(transient, n, out.as_mut_ptr(), out.len()) }
+}
+
 /// The records that calls are played on.
 #[derive(Clone, Copy)]
 pub struct Records {

@@ -86,7 +86,7 @@ fn outside(r: &mut Random) -> f32 {
 }
 
 /// A length of at most `longest`, and now and then one too many for a voice.
-fn length(r: &mut Random, longest: u32) -> u32 {
+pub fn length(r: &mut Random, longest: u32) -> u32 {
     match r.below(10) {
         0 => r.of(&[0, 1, 2]),
         1 => r.of(&[64, 1000]).min(longest),
@@ -127,7 +127,7 @@ pub fn script_with_strikes(r: &mut Random, voice: char, longest: u32) -> Vec<Row
 }
 
 fn refused_and_good(r: &mut Random, voice: char, longest: u32) -> [Row; 2] {
-    let mut good = Row { voice, kind: Kind::Render, flags: 0, samples: 0, knobs: [0.0; 6], unread: r.word() };
+    let mut good = Row { voice, kind: Kind::Render, flags: 0, samples: 0, knobs: [0.0; 6], last: r.word() };
     draw_block(r, &mut good, longest);
     good.flags &= !TRIGGER;
     good.samples = good.samples.min(longest);
@@ -148,8 +148,8 @@ fn draw_block(r: &mut Random, row: &mut Row, longest: u32) {
 /// asked or read what is not its own would be told.
 pub fn row(r: &mut Random, voice: char, kind: Kind, longest: u32) -> Row {
     // any word, so that a call that read it would be told; drawn as when it was the noise state, so that the recorded rows stay
-    let unread = if r.one_in(8) { 33 } else { r.word() };
-    let mut row = Row { voice, kind, flags: 0, samples: 0, knobs: [0.0; 6], unread };
+    let last = if r.one_in(8) { 33 } else { r.word() };
+    let mut row = Row { voice, kind, flags: 0, samples: 0, knobs: [0.0; 6], last };
     match kind {
         Kind::Zero => {}
         Kind::Init => row.knobs[0] = rate(r),

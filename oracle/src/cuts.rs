@@ -24,7 +24,7 @@ fn compare_reached(voice: char, scripts: u32) -> u64 {
     for _ in 0..scripts {
         for row in script_with_strikes(&mut r, voice, 16384) {
             let from = port;
-            let whole = [outcome(&row, |out| rust.play(&row, out)), outcome(&row, |out| port.play(&row, out))];
+            let whole = [outcome(row.samples, |out| rust.play(&row, out)), outcome(row.samples, |out| port.play(&row, out))];
             cuts.add(&mut r, from, &row, &whole);
         }
     }
@@ -40,28 +40,32 @@ fn compare_any(voice: char, blocks: u32) -> u64 {
         row.flags &= !SUSTAIN;
         let from = any_records(&mut r);
         let mut port = from;
-        let whole = outcome(&row, |out| port.play(&row, out));
+        let whole = outcome(row.samples, |out| port.play(&row, out));
         cuts.add(&mut r, from, &row, &[whole]);
     }
     report(&format!("voice {voice} in parts, any record"), cuts.count, cuts.differ)
 }
 
-/// In a third of them every word is of any pattern. As floats these are mostly huge or next to nothing, so in the others one word in 8, or in 64, is
-/// any float, and the rest are floats that a signal may have, or small numbers for a counter to run out. With a rate that is refused there is no block
-/// to cut.
+/// With a rate that is refused there is no block to cut.
 pub fn any_records(r: &mut Random) -> Records {
-    let wild = r.of(&[1, 8, 64]);
-    Records::of_words(rate(r), || {
-        if wild == 1 {
-            r.word()
-        } else if r.one_in(wild) {
-            any(r).to_bits()
-        } else if r.one_in(4) {
-            r.below(1000)
-        } else {
-            (r.unit() * 4.0 - 2.0).to_bits()
-        }
-    })
+    let wild = r.of(&WILD);
+    Records::of_words(rate(r), || any_word(r, wild))
+}
+
+/// In a third of the records every word is of any pattern. As floats these are mostly huge or next to nothing, so in the others one word in 8, or in 64, is
+/// any float, and the rest are floats that a signal may have, or small numbers for a counter to run out.
+pub const WILD: [u32; 3] = [1, 8, 64];
+
+pub fn any_word(r: &mut Random, wild: u32) -> u32 {
+    if wild == 1 {
+        r.word()
+    } else if r.one_in(wild) {
+        any(r).to_bits()
+    } else if r.one_in(4) {
+        r.below(1000)
+    } else {
+        (r.unit() * 4.0 - 2.0).to_bits()
+    }
 }
 
 /// How many blocks were cut, and how many of them left something else.
@@ -80,7 +84,7 @@ impl Cuts {
             return;
         }
         let lengths = lengths(r, row.samples);
-        let parts = outcome(row, |out| in_parts(from, row, &lengths, out));
+        let parts = outcome(row.samples, |out| in_parts(from, row, &lengths, out));
         self.count += 1;
         if whole.iter().any(|side| *side != parts) {
             self.differ += 1;
@@ -94,7 +98,7 @@ impl Cuts {
 }
 
 /// Lengths that add up to `samples`: blocks of one length and what is left over, or a few of any, one of them often 0.
-fn lengths(r: &mut Random, samples: u32) -> Vec<u32> {
+pub fn lengths(r: &mut Random, samples: u32) -> Vec<u32> {
     if r.one_in(6) {
         let each = r.of(&[1, 64, 441]);
         let mut lengths = vec![each; (samples / each) as usize];
@@ -113,7 +117,7 @@ fn lengths(r: &mut Random, samples: u32) -> Vec<u32> {
 }
 
 /// The parts of a buffer one after the other.
-fn each_part(mut out: &mut [f32], lengths: &[u32], mut play: impl FnMut(&mut [f32])) {
+pub fn each_part(mut out: &mut [f32], lengths: &[u32], mut play: impl FnMut(&mut [f32])) {
     for length in lengths {
         let (now, later) = out.split_at_mut(*length as usize);
         play(now);

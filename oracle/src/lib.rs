@@ -15,4 +15,5 @@ pub mod small;
 pub mod state;
 pub mod tally;
 pub mod tracks;
+pub mod transient;
 pub mod voices;

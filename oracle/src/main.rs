@@ -1,5 +1,5 @@
 //! Holds the port against the published Rust: `oracle record ROWS ANSWERS`, `oracle sheets NAMES FOLDER` or `oracle compare SIZE`.
-use oracle::{cuts, draws, filters, min_max, noise, numbers, replay, sheets, small, tracks, voices};
+use oracle::{cuts, draws, filters, min_max, noise, numbers, replay, sheets, small, tracks, transient, voices};
 
 fn main() {
     let args: Vec<String> = std::env::args().skip(1).collect();
@@ -23,6 +23,7 @@ fn compare(size: u32) {
         + filters::compare(size * 1000)
         + voices::compare(size * 60)
         + cuts::compare(size)
+        + transient::compare(size)
         + tracks::compare(size)
         + sheets::compare("target/bin/cues", size * 100)
         + draws::compare("target/bin/draws", size * 100);

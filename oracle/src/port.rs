@@ -60,6 +60,11 @@ pub fn transient_render(transient: SyntheticBassDrumTransient, n: usize, out: &m
     unsafe { bechullpi_synthetic_bass_drum_transient_render(transient, n, out.as_mut_ptr(), out.len()) }
 }
 
+/// A transient of any words, reached by calls or not.
+pub fn transient_of_words(mut word: impl FnMut() -> u32) -> SyntheticBassDrumTransient {
+    unsafe { transmute::<[u32; 11], SyntheticBassDrumTransient>(from_fn(|_| word())) }
+}
+
 /// The records that calls are played on.
 #[derive(Clone, Copy)]
 pub struct Records {

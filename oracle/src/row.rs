@@ -16,7 +16,8 @@ pub const RESONANCE: u8 = 0x08;
 pub const TWO_STAGE: u8 = 0x10;
 
 /// `knobs` of an `Init`: the rate first. Of a `Strike` and a `Render`: accent, f0, a, decay, c, and the bass's self_fm_amount; a strike reads accent and, of y and
-/// h, decay. `unread` is the word at the end of a row, where an answer has the noise state: each record has its own, so no call reads one here.
+/// h, decay. `last` is the word at the end of a row, where an answer has the noise state: each record has its own, so no call reads one here. A `Render` of the
+/// transient, c, reads its n there.
 #[derive(Clone, Copy)]
 pub struct Row {
     pub voice: char,
@@ -24,7 +25,7 @@ pub struct Row {
     pub flags: u8,
     pub samples: u32,
     pub knobs: [f32; 6],
-    pub unread: u32,
+    pub last: u32,
 }
 
 impl Row {
@@ -32,7 +33,7 @@ impl Row {
     /// How many samples it has is told by its buffer. With `trigger` the voice is struck before it.
     pub fn of_cue(voice: char, trigger: bool, [accent, f0, a, decay, c]: [f32; 5]) -> Self {
         let flags = RESONANCE | if trigger { TRIGGER } else { 0 };
-        Row { voice, kind: Kind::Render, flags, samples: 0, knobs: [accent, f0, a, decay, c, 0.0], unread: 0 }
+        Row { voice, kind: Kind::Render, flags, samples: 0, knobs: [accent, f0, a, decay, c, 0.0], last: 0 }
     }
 
     pub fn flag(&self, flag: u8) -> bool {
@@ -52,6 +53,6 @@ impl std::fmt::Display for Row {
         for knob in self.knobs {
             write!(f, " {:08x}", crate::state::pattern(knob))?;
         }
-        write!(f, " {:08x}", self.unread)
+        write!(f, " {:08x}", self.last)
     }
 }

@@ -20,7 +20,7 @@ pub const LEAST_F0: f32 = 1.0 / 1048576.0;
 /// place; an unsustained bass reads decay nowhere else, so there the published one is played at this decay.
 pub const LAST_BASS_DECAY: f32 = f32::from_bits(0x3fcc_cccb);
 
-fn is_rate(x: f32) -> bool {
+pub fn is_rate(x: f32) -> bool {
     (16000.0..=96000.0).contains(&x)
 }
 
@@ -73,9 +73,9 @@ impl PartialEq for Outcome {
     }
 }
 
-/// A row played into a buffer, which a refused one leaves as it is.
-pub fn outcome(row: &Row, play: impl FnOnce(&mut [f32]) -> Played) -> Outcome {
-    let mut samples = vec![0.25; row.samples as usize];
+/// A call, or a row, played into a buffer of so many samples, which a refused one leaves as it is.
+pub fn outcome(samples: u32, play: impl FnOnce(&mut [f32]) -> Played) -> Outcome {
+    let mut samples = vec![0.25; samples as usize];
     let played = play(&mut samples);
     Outcome { played, samples }
 }
@@ -91,11 +91,11 @@ fn compare_voice(voice: char, scripts: u32) -> u64 {
     let (mut rows, mut refused, mut samples, mut differ) = (0u64, 0u64, 0u64, 0u64);
     for row in (0..scripts).flat_map(|_| script_with_strikes(&mut r, voice, 16384)) {
         let from = port;
-        let want = outcome(&row, |out| rust.play(&row, out));
-        let mut got = vec![outcome(&row, |out| port.play(&row, out))];
+        let want = outcome(row.samples, |out| rust.play(&row, out));
+        let mut got = vec![outcome(row.samples, |out| port.play(&row, out))];
         let rendered = want.played.refusal == 0 && matches!(row.kind, Kind::Render);
         if rendered && row.flag(TRIGGER) {
-            got.push(outcome(&row, |out| in_two_rows(from, &row, out)));
+            got.push(outcome(row.samples, |out| in_two_rows(from, &row, out)));
         }
         rows += 1;
         refused += u64::from(want.played.refusal != 0);
@@ -121,10 +121,10 @@ fn in_two_rows(mut port: Records, row: &Row, out: &mut [f32]) -> Played {
 }
 
 /// The noise state that an accepted init leaves: the one that the published generator begins with.
-const FIRST_NOISE: u32 = 33;
+pub const FIRST_NOISE: u32 = 33;
 
 /// A block that draws noise from a state of its own: the published voices share one static generator.
-fn drawing(noise: &mut u32, block: impl FnOnce()) {
+pub fn drawing(noise: &mut u32, block: impl FnOnce()) {
     random::seed(*noise);
     block();
     *noise = noise_state();

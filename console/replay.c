@@ -1,20 +1,21 @@
-// Answers rows from standard input, so that any oracle can drive the four voices. A row is a call, or two, on the record that the voice's last row left; before
-// the first row every record is zero. It has 79 bytes with its line end, parted by single spaces; its numbers have lower-case hexadecimal digits.
+// Answers rows from standard input, so that any oracle can drive the four voices, and click and hiss. A row is a call, or two, on the record that the voice's last
+// row left; before the first row every record is zero. It has 79 bytes with its line end, parted by single spaces; its numbers have lower-case hexadecimal digits.
 //
 //     row     V K FF NNNNNNNN W1 W2 W3 W4 W5 W6 SSSSSSSS
 //     answer  RR SSSSSSSS DDDDDDDD TTTTTTTT
 //
-//     V   b s y h: analog bass drum, analog snare drum, synthetic snare drum, hi-hat
-//     K   n, a record with every field zero; i, init; k, strike; r, run, or with the flag trigger strike and then run
+//     V   b s y h: analog bass drum, analog snare drum, synthetic snare drum, hi-hat; c: click plus hiss of the synthetic bass drum
+//     K   n, a record with every field zero; i, init; k, strike; r, run, or with the flag trigger strike and then run, and of c its block; there is no k of c
 //     FF  flags: 1 sustain, 2 trigger, 4 linear VCA, 8 resonance, 10 two-stage envelope
-//     N   samples        W   patterns of floats        S   the noise state of the voice's record after the row, 0 for b; that of a row is not read
+//     N   samples        W   patterns of floats        S   the noise state of the voice's record after the row, 0 for b; that of a row is read by r of c alone
 //     R   the number of the first refusal, 00 for an accepted row        D, T   the digests of the samples and of the voice's state
 //
 // The words of `init` are the rate and five that it does not read; those of `strike` and `run` are accent, f0, a, decay, c and the bass drum's self_fm_amount,
 // with a and c as on a cue line. A strike reads accent and, of y and h, decay; a run of b and s all but accent, one of y and h accent too; the sixth is read by a
-// run of b alone. A refused strike is not followed by its run; a refused run leaves the struck record. Flags that a call has no use for change nothing. Rows `n`,
-// `i` and `k` render nothing, whatever their N. An N above 00004001, flags above 1f and a last line without its line end are malformed, as any other text that is
-// no row: such a line gets `refused,8,K`, K its number from 1, and none is read after it.
+// run of b alone. A refused strike is not followed by its run; a refused run leaves the struck record. A block of c reads no words: its click is fed 0.0 for the
+// first S samples, and 1.0 afterwards. Flags that a call has no use for change nothing. Rows `n`, `i` and `k` render nothing, whatever their N. An N above
+// 00004001, flags above 1f and a last line without its line end are malformed, as any other text that is no row: such a line gets `refused,8,K`, K its number
+// from 1, and none is read after it.
 #include "bechullpi.h"
 
 #include <inttypes.h>
@@ -30,6 +31,7 @@ typedef struct {
     bool sustain, trigger, linear, resonance, two_stage_envelope;
     size_t samples;
     float words[WORDS];
+    size_t n;
 } row;
 
 typedef struct {
@@ -37,6 +39,7 @@ typedef struct {
     bechullpi_analog_snare_drum snare;
     bechullpi_synthetic_snare_drum synthetic_snare;
     bechullpi_hihat hihat;
+    bechullpi_synthetic_bass_drum_transient transient;
 } voices;
 
 typedef struct {
@@ -73,7 +76,7 @@ static bool is_one_of(const char *letters, char c)
     return c != '\0' && strchr(letters, c) != NULL;
 }
 
-// Behind the words are the digits of S: the records have their noise states, so it is only seen that these are digits.
+// Behind the words are the digits of S. The records have their noise states: only a block of c reads it, as its n.
 static bool read_words(const char *line, row *r)
 {
     uint32_t word;
@@ -82,14 +85,17 @@ static bool read_words(const char *line, row *r)
             return false;
         memcpy(&r->words[i], &word, sizeof word);
     }
-    return number(line + 70, 8, &word);
+    if (!number(line + 70, 8, &word))
+        return false;
+    r->n = word;
+    return true;
 }
 
 // Whether a line of ROW_BYTES is a row, and the row.
 static bool read_row(const char *line, row *r)
 {
     uint32_t flags, samples;
-    if (!is_parted(line) || !is_one_of("bsyh", line[0]) || !is_one_of("nikr", line[2]))
+    if (!is_parted(line) || !is_one_of("bsyhc", line[0]) || !is_one_of(line[0] == 'c' ? "nir" : "nikr", line[2]))
         return false;
     if (!number(line + 4, 2, &flags) || flags > MOST_FLAGS || !number(line + 7, 8, &samples) || samples > MOST_SAMPLES)
         return false;
@@ -184,6 +190,13 @@ static uint32_t of_hihat(const bechullpi_hihat *v)
     return of_svf(h, &v->hpf);
 }
 
+static uint32_t of_transient(const bechullpi_synthetic_bass_drum_transient *t)
+{
+    uint32_t h = of_floats(START, (const float[]){t->click.sample_rate_hz, t->click.lp, t->click.hp}, 3);
+    h = of_svf(h, &t->click.filter);
+    return of_floats(h, (const float[]){t->attack_noise.lp, t->attack_noise.hp}, 2);
+}
+
 // A row answered by its voice, whose record becomes the one after the row.
 
 static float out[MOST_SAMPLES];
@@ -232,6 +245,19 @@ PLAY(hihat, v->noise, of_hihat, (a.voice, w[0], w[3]), (a.voice, r->linear, knob
      .sustain = r->sustain, .accent = w[0], .f0 = w[1], .tone = w[2], .decay = w[3], .noisiness = w[4],
      .resonance = r->resonance, .two_stage_envelope = r->two_stage_envelope)
 
+static reply play_transient(bechullpi_synthetic_bass_drum_transient *t, const row *r)
+{
+    bechullpi_synthetic_bass_drum_transient_answered a = {0, *t};
+    if (r->call == 'n')
+        a.transient = bechullpi_synthetic_bass_drum_transient_zero();
+    if (r->call == 'i')
+        a = bechullpi_synthetic_bass_drum_transient_init(a.transient, r->words[0]);
+    if (r->call == 'r')
+        a = bechullpi_synthetic_bass_drum_transient_render(a.transient, r->n, out, r->samples);
+    *t = a.transient;
+    return (reply){a.number, t->noise, of_rendered(r, a.number), of_transient(t)};
+}
+
 static reply play(voices *v, const row *r)
 {
     switch (r->voice) {
@@ -241,8 +267,10 @@ static reply play(voices *v, const row *r)
         return play_analog_snare_drum(&v->snare, r);
     case 'y':
         return play_synthetic_snare_drum(&v->synthetic_snare, r);
-    default:
+    case 'h':
         return play_hihat(&v->hihat, r);
+    default:
+        return play_transient(&v->transient, r);
     }
 }
 
@@ -253,6 +281,7 @@ int main(void)
         bechullpi_analog_snare_drum_zero(),
         bechullpi_synthetic_snare_drum_zero(),
         bechullpi_hihat_zero(),
+        bechullpi_synthetic_bass_drum_transient_zero(),
     };
     char line[ROW_BYTES];
     row r;

@@ -33,7 +33,7 @@ const RATE: f32 = 48000.0;
 const BASS: Knobs = [0.8, 0.001, 0.4, 0.6, 0.5, 0.3];
 const SNARE: Knobs = [0.8, 0.004, 0.5, 0.6, 0.5, 0.0];
 const HIHAT: Knobs = [0.8, 0.01, 0.6, 0.7, 0.5, 0.0];
-/// For how many samples the click is fed 0.0: a millisecond, as the published bass drum does when it is triggered.
+/// For how many samples the transient's click is fed 0.0: a millisecond.
 const CLICK: usize = 48;
 
 pub fn jobs() -> Vec<Job> {
@@ -49,7 +49,8 @@ pub fn jobs() -> Vec<Job> {
     jobs
 }
 
-/// A voice from its init, struck at the first of the blocks that make up `SAMPLES`. Both sides take the rate, the knobs, the number of blocks and the block.
+/// A voice from its init, struck at the first of the blocks that make up `SAMPLES`. Both sides take the rate, the knobs, of the transient its n, the number of blocks
+/// and the block.
 fn voice<K: Copy + 'static>(
     name: &str,
     block: usize,
@@ -155,7 +156,7 @@ fn hihat_rust(block: usize) -> impl FnMut(f32, Knobs, u32, &mut [f32]) {
     }
 }
 
-/// Click plus hiss: n is what is left of the samples for which the click is fed 0.0.
+/// Click plus hiss, from block to block with what is left of n: hidden anew at each, as the knobs are.
 fn transient_port(rate: f32, mut n: usize, blocks: u32, out: &mut [f32]) {
     let mut transient = port::bechullpi_synthetic_bass_drum_transient_init(port::bechullpi_synthetic_bass_drum_transient_zero(), rate).transient;
     for _ in 0..blocks {

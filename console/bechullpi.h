@@ -1,4 +1,4 @@
-// bechullpi.h: the drum voices for a console in C or C++, with all that they are made of. x86-64 only, System V calling convention.
+// bechullpi.h: drum voices and a click for a console in C or C++, with all that they are made of. x86-64 only, System V calling convention.
 //
 // console/header made this file from the signatures in crates/console/src: change those, or console/bechullpi.h.in, not this.
 //
@@ -13,13 +13,21 @@
 // and runs. A record may hold any patterns, but a bool is 0 or 1.
 //
 // STRIKES AND RUNS
-// A sound is a strike and then runs. `strike` begins it and renders no sample: it takes accent, and for a synthetic snare or a hi-hat
-// decay. `run` renders a block of it: it takes the knobs and a buffer.
+// A voice's sound is a strike and then runs. `strike` begins it and renders no sample: it takes accent, and for a synthetic snare or a
+// hi-hat decay. `run` renders a block of it: it takes the knobs and a buffer.
 // The decay of a strike says how long the noise of a synthetic snare holds before it fades, from 40 to 70 milliseconds, and how high the
 // envelope of a hi-hat begins: a longer decay begins lower. The knobs of a run need not be those of the strike. Their decay says how fast
 // the sound fades in that run; accent, which a synthetic snare and a hi-hat have among them, counts only where the run sustains.
 // Where no call is refused, a strike and then a run with the same knobs are the Rust's `render` with its trigger set, and a run alone is
 // the one without. Of strikes with no run between them the last accepted one counts, as if there had been no other. Both are proved.
+//
+// CLICK
+// For when the stick is let go there is a transient: the click and the hiss of the Rust's synthetic bass drum, whose other parts are not
+// here. It starts from its zero record, then `init`, and then comes `render`, block after block. Each sample is click plus hiss.
+// The click is what a rise of its input gives. `render` feeds it 0.0 for the first n samples of the block and 1.0 afterwards. So give it,
+// in the block that begins as the stick is let go, the samples of a millisecond or so, then what is left of them (BLOCKS), and so 0 soon.
+// The hiss does not end by itself, and there is no accent: fade the samples out, as the Rust does. Its envelope is held for a millisecond,
+// then multiplied by 1 - 1 / (0.005 * rate) a sample, and smoothed. That the stick was let go is queued as a strike is.
 //
 // THREADS
 // One thread at a time owns a record; calls with different records may run at once. The stick's thread knows when a sound begins, the
@@ -44,12 +52,14 @@
 //      9  sheet: a cue does not start below the length and after the cue before it
 //     10  sheet: there are more than 64 cues
 //     11  sheet: the buffer has fewer places than the sheet has samples
-// What a voice asks:
-//                       init   strike    run
+// What a voice asks, and a transient and the click by itself, which have no strike:
+//                       init   strike    run, render
 //      analog bass      1      4         2, 3, 5
 //      analog snare     1      4         2, 3, 5
 //      synthetic snare  1      1, 4, 5   1, 2, 3, 4, 5
 //      hi-hat           1      1, 4, 5   1, 2, 3, 4, 5
+//      transient        1                2
+//      click            1
 // Where a strike or a run asks 1, it is of the rate that the record holds from `init`; where a run asks 4, it asks it whether it sustains
 // or not.
 // What answers no such number takes any value.
@@ -57,14 +67,17 @@
 // SAMPLES ARE NOT LIMITED TO 1.0. A synthetic snare reached 110 in a sheet that is accepted. Limit before the converter.
 //
 // NOISE
-// Each record of an analog snare, a synthetic snare or a hi-hat carries its own noise state, in its last field. `init` sets it to 33, a run
-// goes on from there, and a strike leaves it as it is. A knock on one voice does not change another's noise. Nothing needs to be passed on.
+// Each record of an analog snare, a synthetic snare, a hi-hat or a transient carries its own noise state, in its last field. `init` sets it
+// to 33, a run or `render` goes on from there, and a strike leaves it as it is. A knock on one voice does not change another's noise.
+// Nothing needs to be passed on, except for the hiss by itself: its call takes the state, at first 33, and hands back the next.
 //
 // BLOCKS
 // The lengths of the blocks do not change the sound. From one strike to the next, where nothing sustains and the knobs stay, any two ways
 // to cut the sound into accepted runs give the same samples and leave the same record, bit for bit, its noise state included; and the
 // parts of an accepted run are accepted. This is proved. So a strike may come at any sample: run up to it, strike, and run over the rest.
 // A block may have 0 samples, and may still change the record. A sustained block is excepted: its gain slides over the block's own length.
+// A transient may be cut into any accepted blocks too, where the next block is given what is left of n: n minus the block's length, or 0 if
+// the block is longer. This is proved.
 //
 // POINTERS
 // A buffer crosses as a pointer to its first place and the number of its places. The pointer is not null, also where the number is 0.
@@ -77,10 +90,10 @@
 // A NaN is one value here: which of its patterns comes back is the machine's choice.
 //
 // STACK
-// A call takes at most BECHULLPI_STACK_.. bytes, as below, of its caller's stack, arguments and answer included. console/stack.c measures
-// on memory that is painted before each call: some 140 bytes for a number or a filter, 1,450 for a voice, 67,300 for a sheet (gcc 12, the
-// library as console/build makes it). It fails where a figure is passed. What is above that is room for the dynamic linker: binding memcpy
-// on its first call took 2,600 bytes more.
+// A call takes at most BECHULLPI_STACK_.. bytes, as below, of its caller's stack, arguments and answer included; the click's are among the
+// voices'. console/stack.c measures on memory that is painted before each call: some 140 bytes for a number or a filter, 310 for a
+// transient, 1,450 for a voice, 67,300 for a sheet (gcc 12, the library as console/build makes it). It fails where a figure is passed. What
+// is above that is room for the dynamic linker: binding memcpy on its first call took 2,600 bytes more, and memset 3,200.
 #ifndef BECHULLPI_H
 #define BECHULLPI_H
 

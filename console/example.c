@@ -1,5 +1,6 @@
 // A console in small: a stick, which knows when, and a sound loop, which knows how many. The stick queues strikes. The sound loop takes them at the start of a
-// block, strikes the four voices, runs each over 64 samples, adds them, limits the sum and hands it out. It is the model of how the library is used.
+// block, strikes the four voices, runs each over 64 samples, adds them and the click of a stick that is let go, limits the sum and hands it out. It is the
+// model of how the library is used.
 // console/recorded/example is what it printed, and has to print: that file comes from the library itself, so it shows that records cross whole and that nothing
 // has changed; that the samples are right is shown by the proofs and by oracle/.
 #include "bechullpi.h"
@@ -11,24 +12,26 @@
 
 enum { BLOCK = 64, BLOCKS = 750 }; // a second
 enum { CUE = 14400 };              // 0.3 seconds
+enum { FALL = 48 };                // a millisecond: the click falls before it rises
+enum { LONGEST = 16384 };          // of a block, and of a sheet
 static const float RATE = 48000.0f;
 static const float DECAY = 0.4f; // of the synthetic snare and the hi-hat on the ride, struck and run
 
 // ---- the queue
 
-enum { BASS, SNARE, SYNTHETIC_SNARE, HIHAT, VOICES };
+enum { BASS, SNARE, SYNTHETIC_SNARE, HIHAT, CLICK, SOUNDS };
 
-// What a strike takes; the analog voices take no decay.
+// What a strike takes; the analog voices take no decay. The click has no strike: accent is its level when the stick is let go.
 typedef struct {
     float accent, decay;
 } strike;
 
-// All that the stick and the sound loop have in common: for each voice the strike that waits. The stick alone puts, the sound loop alone takes. A strike is one
-// word, so nobody meets half of one, and there is no lock to wait for. A voice needs one place, so the queue is never full: of accepted strikes with no run
-// between them the last counts, so a new one takes the place of one that waits, and nothing that would be heard is lost. What is put must be in range: a strike
-// that will be refused would take the place of one that would be heard.
+// All that the stick and the sound loop have in common: for each sound the strike that waits. The stick alone puts, the sound loop alone takes. A strike is one
+// word, so nobody meets half of one, and there is no lock to wait for. A sound needs one place, so the queue is never full: of accepted strikes with no run
+// between them the last counts, so a new one takes the place of one that waits, and nothing that would be heard is lost. A click begins where a
+// block does, so it needs no second place either. What is put must be in range: a strike that will be refused would take the place of one that would be heard.
 typedef struct {
-    _Atomic uint64_t waiting[VOICES];
+    _Atomic uint64_t waiting[SOUNDS];
 } queue;
 
 _Static_assert(sizeof(strike) == sizeof(uint64_t), "a strike is one word");
@@ -38,29 +41,29 @@ static const uint64_t NOTHING = UINT64_MAX; // no accepted strike: it would be o
 
 static void make_empty(queue *q)
 {
-    for (int voice = 0; voice < VOICES; voice++)
-        atomic_init(&q->waiting[voice], NOTHING);
+    for (int sound = 0; sound < SOUNDS; sound++)
+        atomic_init(&q->waiting[sound], NOTHING);
 }
 
-static void put(queue *q, int voice, strike s)
+static void put(queue *q, int sound, strike s)
 {
     uint64_t word;
     memcpy(&word, &s, sizeof word);
-    atomic_store(&q->waiting[voice], word);
+    atomic_store(&q->waiting[sound], word);
 }
 
-static bool take(queue *q, int voice, strike *s)
+static bool take(queue *q, int sound, strike *s)
 {
-    uint64_t word = atomic_exchange(&q->waiting[voice], NOTHING);
+    uint64_t word = atomic_exchange(&q->waiting[sound], NOTHING);
     memcpy(s, &word, sizeof word);
     return word != NOTHING;
 }
 
 // ---- the stick's side
 
-// The stick, asked once a block: what the crawler met, and how fast it went, from 0 to 1.
+// The stick, asked once a block: what the crawler met, whether the stick was let go, and how fast the crawler went, from 0 to 1.
 typedef struct {
-    bool joint, grit, stone, slip;
+    bool joint, grit, stone, slip, let_go;
     float speed;
 } stick;
 
@@ -72,6 +75,7 @@ static stick read_stick(int block)
         .grit = block % 75 == 40,
         .stone = block % 300 == 110,
         .slip = block >= 400 && block % 35 == 15,
+        .let_go = block % 240 == 150,
         .speed = (float)block / BLOCKS,
     };
 }
@@ -89,16 +93,26 @@ static void move_stick(queue *q, int block)
         put(q, SYNTHETIC_SNARE, s);
     if (now.slip)
         put(q, HIHAT, s);
+    if (now.let_go)
+        put(q, CLICK, s);
 }
 
 // ---- the sound loop's side
 
-// What the sound loop keeps between blocks: the records. Each voice that draws noise has the state of it in its own.
+// The click and the hiss, with what their record does not hold.
+typedef struct {
+    bechullpi_synthetic_bass_drum_transient transient;
+    size_t n;    // the samples for which the click is still fed 0.0
+    float level; // fades, since the hiss does not end by itself
+} click;
+
+// What the sound loop keeps between blocks: the records. Each sound that draws noise has the state of it in its own.
 typedef struct {
     bechullpi_analog_bass_drum bass;
     bechullpi_analog_snare_drum snare;
     bechullpi_synthetic_snare_drum synthetic_snare;
     bechullpi_hihat hihat;
+    click click;
 } kit;
 
 typedef struct {
@@ -113,11 +127,13 @@ static uint32_t start(kit *k)
     bechullpi_analog_snare_drum_answered s = bechullpi_analog_snare_drum_init(bechullpi_analog_snare_drum_zero(), RATE);
     bechullpi_synthetic_snare_drum_answered y = bechullpi_synthetic_snare_drum_init(bechullpi_synthetic_snare_drum_zero(), RATE);
     bechullpi_hihat_answered h = bechullpi_hihat_init(bechullpi_hihat_zero(), RATE);
-    *k = (kit){b.voice, s.voice, y.voice, h.voice};
-    return b.number ? b.number : s.number ? s.number : y.number ? y.number : h.number;
+    bechullpi_synthetic_bass_drum_transient_answered t =
+        bechullpi_synthetic_bass_drum_transient_init(bechullpi_synthetic_bass_drum_transient_zero(), RATE);
+    *k = (kit){b.voice, s.voice, y.voice, h.voice, {t.transient, 0, 0.0f}};
+    return b.number ? b.number : s.number ? s.number : y.number ? y.number : h.number ? h.number : t.number;
 }
 
-// The voices for which a strike waits, struck. A refused strike leaves the record as it was.
+// The voices for which a strike waits, struck, and the click begun. A refused strike leaves the record as it was.
 static uint32_t strike_kit(kit *k, queue *q)
 {
     bechullpi_analog_bass_drum_answered b = {0, k->bass};
@@ -133,13 +149,15 @@ static uint32_t strike_kit(kit *k, queue *q)
         y = bechullpi_synthetic_snare_drum_strike(k->synthetic_snare, now.accent, now.decay);
     if (take(q, HIHAT, &now))
         h = bechullpi_hihat_strike(k->hihat, now.accent, now.decay);
-    *k = (kit){b.voice, s.voice, y.voice, h.voice};
+    if (take(q, CLICK, &now))
+        k->click = (click){k->click.transient, FALL, now.accent};
+    *k = (kit){b.voice, s.voice, y.voice, h.voice, k->click};
     return b.number ? b.number : s.number ? s.number : y.number ? y.number : h.number;
 }
 
 // One block of every voice, each into its own part. No voice hears of another; a refused run leaves record and part as they were. Accent is asked of y and h in
 // every run, and makes a difference only in one that sustains: none does here.
-static uint32_t run_kit(kit *k, float part[VOICES][BLOCK])
+static uint32_t run_kit(kit *k, float part[SOUNDS][BLOCK])
 {
     bechullpi_analog_bass_drum_answered b = bechullpi_analog_bass_drum_run(
         k->bass,
@@ -155,8 +173,26 @@ static uint32_t run_kit(kit *k, float part[VOICES][BLOCK])
         k->hihat, BECHULLPI_SWING_VCA,
         (bechullpi_hihat_knobs){.accent = 1.0f, .f0 = 420.0f / RATE, .tone = 0.6f, .decay = DECAY, .noisiness = 0.5f, .resonance = true},
         part[HIHAT], BLOCK);
-    *k = (kit){b.voice, s.voice, y.voice, h.voice};
+    *k = (kit){b.voice, s.voice, y.voice, h.voice, k->click};
     return b.number ? b.number : s.number ? s.number : y.number ? y.number : h.number;
+}
+
+// One block of click and hiss at their level. It fades as the Rust's envelope does before that is smoothed, and is held while the click falls. Below a step of a
+// converter of 24 bits it ends: it would come to subnormal numbers, which are slow. What the block leaves of n is for the next one.
+static uint32_t render_click(click *c, float part[BLOCK])
+{
+    bechullpi_synthetic_bass_drum_transient_answered t = bechullpi_synthetic_bass_drum_transient_render(c->transient, c->n, part, BLOCK);
+    if (t.number != 0)
+        return t.number;
+    c->transient = t.transient;
+    for (int i = 0; i < BLOCK; i++) {
+        if (c->n > 0)
+            c->n--;
+        else
+            c->level = c->level < 0x1p-24f ? 0.0f : c->level * (1.0f - 1.0f / (0.005f * RATE));
+        part[i] *= c->level;
+    }
+    return 0;
 }
 
 static const uint32_t FIRST_DIGEST = 2166136261u;
@@ -168,11 +204,11 @@ static uint32_t digest(uint32_t h, float sample)
     return (h ^ pattern) * 16777619u;
 }
 
-// The converter takes -1 to 1 and the voices do not keep to that: limit first.
-static void put_out(heard *to, float part[VOICES][BLOCK])
+// The converter takes -1 to 1 and neither voices nor click keep to that: limit first.
+static void put_out(heard *to, float part[SOUNDS][BLOCK])
 {
     for (int i = 0; i < BLOCK; i++) {
-        float sum = part[BASS][i] + part[SNARE][i] + part[SYNTHETIC_SNARE][i] + part[HIHAT][i];
+        float sum = part[BASS][i] + part[SNARE][i] + part[SYNTHETIC_SNARE][i] + part[HIHAT][i] + part[CLICK][i];
         float size = bechullpi_ieee754_abs(sum);
         to->limited += size > 1.0f;
         to->largest = bechullpi_ieee754_maximum_number(to->largest, size);
@@ -184,12 +220,13 @@ static void put_out(heard *to, float part[VOICES][BLOCK])
 // run is refused is not handed out, and a console would hand out silence in its place.
 static uint32_t play_block(kit *k, queue *q, heard *to)
 {
-    static float part[VOICES][BLOCK];
+    static float part[SOUNDS][BLOCK];
     uint32_t struck = strike_kit(k, q);
     uint32_t ran = run_kit(k, part);
-    if (ran == 0)
+    uint32_t rendered = render_click(&k->click, part[CLICK]);
+    if (ran == 0 && rendered == 0)
         put_out(to, part);
-    return struck ? struck : ran;
+    return struck ? struck : ran ? ran : rendered;
 }
 
 // ---- the ride
@@ -208,7 +245,8 @@ static uint32_t ride(kit *k)
             return number;
     }
     printf("%d samples, digest %08" PRIx32 "\n", BLOCK * BLOCKS, all.digest);
-    printf("noise %08" PRIx32 ", %08" PRIx32 " and %08" PRIx32 "\n", k->snare.noise, k->synthetic_snare.noise, k->hihat.noise);
+    printf("noise %08" PRIx32 ", %08" PRIx32 ", %08" PRIx32, k->snare.noise, k->synthetic_snare.noise, k->hihat.noise);
+    printf(" and %08" PRIx32 "\n", k->click.transient.noise);
     printf("%" PRIu32 " were limited, the largest was %.6f\n", all.limited, all.largest);
     return 0;
 }
@@ -284,14 +322,42 @@ static void play_cue(size_t length)
     printf("a cue in blocks of %zu is answered %" PRIu32 ": digest %08" PRIx32 ", noise %08" PRIx32 "\n", length, h.number, d, h.voice.noise);
 }
 
+// A click in blocks of a length is the same at every length too. The record is handed on, and what is left of n: here a block of 64 and one of 441 leave some.
+static void play_click(size_t length)
+{
+    static float out[CUE];
+    size_t n = 480;
+    bechullpi_synthetic_bass_drum_transient_answered t =
+        bechullpi_synthetic_bass_drum_transient_init(bechullpi_synthetic_bass_drum_transient_zero(), RATE);
+    for (size_t at = 0; at < CUE && t.number == 0; at += length) {
+        size_t left = CUE - at, block = left < length ? left : length;
+        t = bechullpi_synthetic_bass_drum_transient_render(t.transient, n, out + at, block);
+        n = n < block ? 0 : n - block;
+    }
+    uint32_t d = digest_of(out, CUE);
+    printf("a click in blocks of %zu is answered %" PRIu32 ": digest %08" PRIx32 ", noise %08" PRIx32 "\n", length, t.number, d, t.transient.noise);
+}
+
+// The one question that the click's blocks are asked.
+static void be_refused_for_length(const kit *k)
+{
+    static float out[LONGEST + 1], before[LONGEST + 1];
+    for (size_t i = 0; i <= LONGEST; i++)
+        out[i] = before[i] = 0.25f;
+    bechullpi_synthetic_bass_drum_transient was = k->click.transient;
+    bechullpi_synthetic_bass_drum_transient_answered t = bechullpi_synthetic_bass_drum_transient_render(was, FALL, out, LONGEST + 1);
+    bool kept = memcmp(&t.transient, &was, sizeof was) == 0 && memcmp(out, before, sizeof out) == 0;
+    printf("a click of %d samples is refused by %" PRIu32 "; the rest is %s\n", LONGEST + 1, t.number, kept ? "as it was" : "CHANGED");
+}
+
 // A whole sheet in one call: sheets/joint.csv.
 static void play_sheet(void)
 {
     static const char sheet[] = "48000,14400\n"
                                 "0,b,3f666666,3a962fc9,3eb33333,3f0ccccd,3ecccccd\n"
                                 "7200,b,3f000000,3a8dfea2,3e99999a,3ee66666,3e4ccccd\n";
-    static float out[16384];
-    bechullpi_sheet_answered a = bechullpi_sheet((const uint8_t *)sheet, sizeof sheet - 1, out, 16384);
+    static float out[LONGEST];
+    bechullpi_sheet_answered a = bechullpi_sheet((const uint8_t *)sheet, sizeof sheet - 1, out, LONGEST);
     uint32_t d = digest_of(out, a.length);
     printf("a sheet is answered %" PRIu32 ": %" PRIu32 " cues, %" PRIu32 " samples, digest %08" PRIx32 "\n", a.number, a.cues, a.length, d);
 }
@@ -312,6 +378,10 @@ int main(void)
     play_cue(64);
     play_cue(441);
     play_cue(CUE);
+    play_click(64);
+    play_click(441);
+    play_click(CUE);
+    be_refused_for_length(&k);
     play_sheet();
     return 0;
 }

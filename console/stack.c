@@ -24,6 +24,7 @@ static bechullpi_analog_snare_drum snare;
 static bechullpi_synthetic_snare_drum synthetic_snare;
 static bechullpi_hihat hihat;
 static bechullpi_square_noise square_noise;
+static bechullpi_synthetic_bass_drum_transient transient;
 static const bechullpi_analog_bass_drum_knobs bass_knobs = {
     .f0 = 0.001f, .tone = 0.5f, .decay = 0.5f, .attack_fm_amount = 0.5f, .self_fm_amount = 0.5f};
 static const bechullpi_analog_snare_drum_knobs snare_knobs = {.f0 = 0.004f, .tone = 0.5f, .decay = 0.5f, .snappy = 0.5f};
@@ -105,7 +106,16 @@ static size_t sheet_bytes;
     CALL(hihat_run, (hihat, linear, hihat_knobs, buffer, PLACES)) \
     CALL(hihat_square_noise_zero, ()) \
     CALL(hihat_square_noise_init, (square_noise)) \
-    CALL(hihat_square_noise_render, (square_noise, 0.01f, buffer, PLACES))
+    CALL(hihat_square_noise_render, (square_noise, 0.01f, buffer, PLACES)) \
+    CALL(synthetic_bass_drum_click_zero, ()) \
+    CALL(synthetic_bass_drum_click_init, (transient.click, 48000.0f)) \
+    CALL(synthetic_bass_drum_click_process, (transient.click, 1.0f)) \
+    CALL(synthetic_bass_drum_attack_noise_zero, ()) \
+    CALL(synthetic_bass_drum_attack_noise_init, (transient.attack_noise)) \
+    CALL(synthetic_bass_drum_attack_noise_render, (transient.attack_noise, 33)) \
+    CALL(synthetic_bass_drum_transient_zero, ()) \
+    CALL(synthetic_bass_drum_transient_init, (transient, 48000.0f)) \
+    CALL(synthetic_bass_drum_transient_render, (transient, 48, buffer, PLACES))
 
 #define SHEET(CALL) \
     CALL(sheet, (sheet, sheet_bytes, buffer, PLACES))
@@ -169,6 +179,7 @@ static void init_and_strike(void)
     snare = bechullpi_analog_snare_drum_strike(bechullpi_analog_snare_drum_init(snare, 48000.0f).voice, 0.9f).voice;
     synthetic_snare = bechullpi_synthetic_snare_drum_strike(bechullpi_synthetic_snare_drum_init(synthetic_snare, 48000.0f).voice, 0.9f, 0.5f).voice;
     hihat = bechullpi_hihat_strike(bechullpi_hihat_init(hihat, 48000.0f).voice, 0.9f, 0.5f).voice;
+    transient = bechullpi_synthetic_bass_drum_transient_init(transient, 48000.0f).transient;
 }
 
 static bool is_within(size_t limit, size_t bytes, const char *kind)

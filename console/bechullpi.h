@@ -24,10 +24,10 @@
 // CLICK
 // For when the stick is let go there is a transient: the click and the hiss of the Rust's synthetic bass drum, whose other parts are not
 // here. It starts from its zero record, then `init`, and then comes `render`, block after block. Each sample is click plus hiss.
-// The click is what a rise of its input gives. `render` feeds it 0.0 for the first n samples of the block and 1.0 afterwards. So give it,
-// in the block that begins as the stick is let go, the samples of a millisecond or so, then what is left of them (BLOCKS), and so 0 soon.
-// The hiss does not end by itself, and there is no accent: fade the samples out, as the Rust does. Its envelope is held for a millisecond,
-// then multiplied by 1 - 1 / (0.005 * rate) a sample, and smoothed. That the stick was let go is queued as a strike is.
+// The click is what a rise of its input gives: `render` feeds it 0.0 for the first n samples of the block and 1.0 afterwards. In the block
+// that begins as the stick is let go, n is a millisecond or so; in each block after that it is what is left (BLOCKS), and soon 0.
+// The hiss does not end by itself: fade the samples out, as the Rust's envelope does, which is held for a millisecond, then multiplied by
+// 1 - 1 / (0.005 * rate) a sample, and smoothed. That the stick was let go is queued as a strike is.
 //
 // THREADS
 // One thread at a time owns a record; calls with different records may run at once. The stick's thread knows when a sound begins, the
@@ -76,8 +76,8 @@
 // to cut the sound into accepted runs give the same samples and leave the same record, bit for bit, its noise state included; and the
 // parts of an accepted run are accepted. This is proved. So a strike may come at any sample: run up to it, strike, and run over the rest.
 // A block may have 0 samples, and may still change the record. A sustained block is excepted: its gain slides over the block's own length.
-// A transient may be cut into any accepted blocks too, where the next block is given what is left of n: n minus the block's length, or 0 if
-// the block is longer. This is proved.
+// A transient may be cut into any accepted blocks too, where the next block is given what is left of n: n minus the block's length, or 0
+// where the block is longer. This is proved.
 //
 // POINTERS
 // A buffer crosses as a pointer to its first place and the number of its places. The pointer is not null, also where the number is 0.

@@ -177,8 +177,8 @@ static uint32_t run_kit(kit *k, float part[SOUNDS][BLOCK])
     return b.number ? b.number : s.number ? s.number : y.number ? y.number : h.number;
 }
 
-// One block of click and hiss at their level. It fades as the Rust's envelope does before that is smoothed, and is held while the click falls. Below a step of a
-// converter of 24 bits it ends: it would come to subnormal numbers, which are slow. What the block leaves of n is for the next one.
+// One block of click and hiss at their level. It fades as the Rust's envelope does before that is smoothed, and is held while the click falls. Below a step of
+// a converter of 24 bits it ends: it would come to subnormal numbers, which are slow. What the block leaves of n is for the next one.
 static uint32_t render_click(click *c, float part[BLOCK])
 {
     bechullpi_synthetic_bass_drum_transient_answered t = bechullpi_synthetic_bass_drum_transient_render(c->transient, c->n, part, BLOCK);

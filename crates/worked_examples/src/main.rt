@@ -5,6 +5,9 @@ use analog_bass_drum::AnalogBassDrum;
 use hihat::{Hihat, VcaType};
 use refusal::{Refused, number_and_voice};
 use std::io;
+use synthetic_bass_drum::{SyntheticBassDrumClick, SyntheticBassDrumTransient};
+
+type Transient = SyntheticBassDrumTransient;
 
 fn print(rt: &HostRuntime, example: &str, number: u32) -> io::Result<()> {
     println!(rt; "{example}: {number}")
@@ -96,6 +99,105 @@ fn print_unstarted(rt: &HostRuntime) -> io::Result<()> {
     )
 }
 
+// Click and hiss at 48000.0 over a block, the click fed 0.0 for its first n samples and 1.0 afterwards.
+fn clicked(n: usize, out: &mut [f32]) -> Result<Transient, Refused<Transient>> {
+    Transient::ZERO.init(48000.0)?.render(n, out)
+}
+
+// `init` asks the rate; a block is asked its length alone, with any record, also that of zeros, and any n. What n has above the length makes no difference.
+fn print_clicks(rt: &HostRuntime) -> io::Result<()> {
+    let click = SyntheticBassDrumClick::ZERO;
+    print(rt, "a click at rate 16000.0", number(click.init(16000.0)))?;
+    print(rt, "a click at rate 15999.0", number(click.init(15999.0)))?;
+    let mut samples = [0.0f32; 16385];
+    print(
+        rt,
+        "16385 samples of a click",
+        number(clicked(48, &mut samples)),
+    )?;
+    let mut most = [0.0f32; 16384];
+    print(
+        rt,
+        "16384 samples of a click",
+        number(clicked(48, &mut most)),
+    )?;
+
+    let mut block = [0.0f32; 64];
+    let zeros = Transient::ZERO.render(48, &mut block);
+    print(rt, "64 samples of a record of zeros", number(zeros))?;
+    print(
+        rt,
+        "64 samples of a click, n 0",
+        number(clicked(0, &mut block)),
+    )?;
+    let mut late = [0.0f32; 64];
+    print(
+        rt,
+        "64 samples of a click, n 64",
+        number(clicked(64, &mut late)),
+    )?;
+    print(
+        rt,
+        "64 samples of a click, n the largest",
+        number(clicked(usize::MAX, &mut block)),
+    )?;
+    print(
+        rt,
+        "samples in which n 64 and n the largest differ",
+        differing(&late, &block),
+    )
+}
+
+// 64 samples, one by one: click plus hiss.
+fn one_by_one(start: Transient, n: usize) -> [f32; 64] {
+    let mut out = [0.0f32; 64];
+    let mut click = start.click;
+    let mut attack_noise = start.attack_noise;
+    let mut noise = start.noise;
+    for i in 0..64 {
+        let rise = click.process(if i < n { 0.0 } else { 1.0 });
+        let hiss = attack_noise.render(noise);
+        out[i] = rise.out + hiss.out;
+        click = rise.click;
+        attack_noise = hiss.attack_noise;
+        noise = hiss.noise;
+    }
+    out
+}
+
+// The same samples in one block, in two, the second with what the first left of n, and one by one.
+fn print_parts(rt: &HostRuntime) -> io::Result<()> {
+    let mut whole = [0.0f32; 64];
+    print(
+        rt,
+        "64 samples of a click, n 48",
+        number(clicked(48, &mut whole)),
+    )?;
+
+    let mut parts = [0.0f32; 64];
+    let (first, rest) = parts.split_at_mut(32);
+    let (refused, between) = number_and_voice(clicked(48, first));
+    print(rt, "the first 32, n 48", refused)?;
+    print(
+        rt,
+        "the other 32 after them, n 16",
+        number(between.render(16, rest)),
+    )?;
+    print(
+        rt,
+        "samples in which the 64 and these differ",
+        differing(&whole, &parts),
+    )?;
+
+    let (_, start) = number_and_voice(Transient::ZERO.init(48000.0));
+    let singles = one_by_one(start, 48);
+    print(
+        rt,
+        "samples in which the 64 and click plus hiss, one by one, differ",
+        differing(&whole, &singles),
+    )
+}
+
 // A sheet of two samples into a lent buffer. Where it is refused, its line too.
 fn print_rendered(rt: &HostRuntime, example: &str, out: &mut [f32]) -> io::Result<()> {
     match cue_render::render(b"48000,2\n", out) {
@@ -116,6 +218,9 @@ fn main(rt: HostRuntime) -> io::Result<()> {
     print(&rt, "a strike of accent 1.5", number(struck(1.5)))?;
     print_runs(&rt, voice)?;
     print_unstarted(&rt)?;
+
+    print_clicks(&rt)?;
+    print_parts(&rt)?;
 
     let mut one = [0.0f32; 1];
     print_rendered(&rt, "a sheet of 2 samples into 1 place", &mut one)?;

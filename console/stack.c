@@ -197,7 +197,7 @@ int main(void)
         return 1;
     }
     bool numbers = is_within(BECHULLPI_STACK_NUMBERS, most(numbers_and_filters, sizeof numbers_and_filters / sizeof(caller)), "a number or a filter");
-    bool voice = is_within(BECHULLPI_STACK_VOICES, most(voices, sizeof voices / sizeof(caller)), "a voice");
+    bool voice = is_within(BECHULLPI_STACK_VOICES, most(voices, sizeof voices / sizeof(caller)), "a voice or a click");
     bool whole = is_within(BECHULLPI_STACK_SHEET, most(sheets, sizeof sheets / sizeof(caller)), "a sheet");
     return numbers && voice && whole ? 0 : 1;
 }

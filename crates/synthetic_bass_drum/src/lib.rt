@@ -39,7 +39,7 @@ impl SyntheticBassDrumClick {
 
     pub fn init(self, sample_rate_hz: f32) -> Result<Self, Refused<Self>>
         ensures number { call_number result ≡ (Click.init self sample_rate_hz).number }
-        ensures voice { call_voice result ≡ (Click.init self sample_rate_hz).state }
+        ensures click { call_voice result ≡ (Click.init self sample_rate_hz).state }
     {
         ask(is_sample_rate(sample_rate_hz), Refusal::SampleRate).map_err(|refusal| refusal.of(
             self,
@@ -50,10 +50,8 @@ impl SyntheticBassDrumClick {
     fn initialized(self, sample_rate_hz: f32) -> Self
         ensures { result ≡ Click.initialized self sample_rate_hz }
     {
-        let filter = self
-            .filter
-            .init()
-            .set_f_q(5000.0 / sample_rate_hz, 2.0, FrequencyApproximation::Fast);
+        let filter = self.filter.init();
+        let filter = filter.set_f_q(5000.0 / sample_rate_hz, 2.0, FrequencyApproximation::Fast);
         SyntheticBassDrumClick {
             sample_rate_hz,
             filter,
@@ -144,7 +142,7 @@ impl SyntheticBassDrumTransient {
     // Both parts from their `init`. The noise state is the one that the Rust's begins with, 0x21.
     pub fn init(self, sample_rate_hz: f32) -> Result<Self, Refused<Self>>
         ensures number { call_number result ≡ (Transient.init self sample_rate_hz).number }
-        ensures voice { call_voice result ≡ (Transient.init self sample_rate_hz).state }
+        ensures transient { call_voice result ≡ (Transient.init self sample_rate_hz).state }
     {
         ask(is_sample_rate(sample_rate_hz), Refusal::SampleRate).map_err(|refusal| refusal.of(
             self,

@@ -1,7 +1,8 @@
 // drums/synthetic_bass_drum.rs, in part: the click and the hiss that its attack is made of, each by itself, and both over a block.
 #![tactic(auto)]
 
-ghost use Rattle.std.specs.Prelude.{◌≡◌, length};
+ghost use Rattle.std.specs.Prelude.{◌≡◌, length, replicate};
+ghost use Rattle.block.specs.Block.{scan, scanned};
 ghost use Rattle.refusal.specs.Refusal.{call_number, call_voice};
 ghost use Rattle.synthetic_bass_drum.specs.Click as Click;
 ghost use Rattle.synthetic_bass_drum.specs.AttackNoise as AttackNoise;
@@ -168,8 +169,16 @@ impl SyntheticBassDrumTransient {
         ensures out { out.new ≡ (Transient.render self n out.old).out }
     {
         ask(is_block_length(out.len()), Refusal::BlockLength).map_err(|refusal| refusal.of(self))?;
-        feed(n, out);
-        Ok(block::pass(self, out, |transient, in_| transient.turn(in_)))
+        let (zeros, ones) = out.split_at_mut(n.min(out.len()));
+        Ok(self.held(0.0, zeros).held(1.0, ones))
+    }
+
+    // A block in which the click is fed one level.
+    fn held(self, in_: f32, out: &mut [f32]) -> Self
+        ensures transient { result ≡ scanned Transient.turn self (replicate (length out.old) in_) }
+        ensures out { out.new ≡ scan Transient.turn self (replicate (length out.old) in_) }
+    {
+        block::pass(self, out, |transient, _| transient.turn(in_))
     }
 
     // One turn of the loop: click plus hiss.
@@ -188,13 +197,4 @@ impl SyntheticBassDrumTransient {
             },
         }
     }
-}
-
-// What the click is fed, in the places where the samples are to be.
-fn feed(n: usize, out: &mut [f32])
-    ensures { out.new ≡ Transient.fed n (length out.old) }
-{
-    let (zeros, ones) = out.split_at_mut(n.min(out.len()));
-    zeros.fill(0.0);
-    ones.fill(1.0);
 }

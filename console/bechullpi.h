@@ -90,10 +90,10 @@
 // A NaN is one value here: which of its patterns comes back is the machine's choice.
 //
 // STACK
-// A call takes at most BECHULLPI_STACK_.. bytes, as below, of its caller's stack, arguments and answer included; the click's are among the
-// voices'. console/stack.c measures on memory that is painted before each call: some 140 bytes for a number or a filter, 310 for a
-// transient, 1,450 for a voice, 67,300 for a sheet (gcc 12, the library as console/build makes it). It fails where a figure is passed. What
-// is above that is room for the dynamic linker: binding memcpy on its first call took 2,600 bytes more, and memset 3,200.
+// A call takes at most BECHULLPI_STACK_.. bytes, as below, of its caller's stack, arguments and answer included; a click's are among the
+// voices'. console/stack.c measures on memory that is painted before each call: some 140 bytes for a number or a filter, 150 for a click,
+// 1,450 for a voice, 67,300 for a sheet (gcc 12, the library as console/build makes it). It fails where a figure is passed. What is above
+// that is room for the dynamic linker: binding memcpy on its first call took 2,600 bytes more.
 #ifndef BECHULLPI_H
 #define BECHULLPI_H
 

@@ -104,47 +104,37 @@ fn clicked(n: usize, out: &mut [f32]) -> Result<Transient, Refused<Transient>> {
     Transient::ZERO.init(48000.0)?.render(n, out)
 }
 
-// `init` asks the rate; a block is asked its length alone, with any record, also that of zeros, and any n. What n has above the length makes no difference.
+// `init` asks the rate, and a block its length alone.
 fn print_clicks(rt: &HostRuntime) -> io::Result<()> {
     let click = SyntheticBassDrumClick::ZERO;
     print(rt, "a click at rate 16000.0", number(click.init(16000.0)))?;
     print(rt, "a click at rate 15999.0", number(click.init(15999.0)))?;
     let mut samples = [0.0f32; 16385];
-    print(
-        rt,
-        "16385 samples of a click",
-        number(clicked(48, &mut samples)),
-    )?;
+    let refused = number(clicked(48, &mut samples));
+    print(rt, "16385 samples of a click", refused)?;
     let mut most = [0.0f32; 16384];
-    print(
-        rt,
-        "16384 samples of a click",
-        number(clicked(48, &mut most)),
-    )?;
-
+    let accepted = number(clicked(48, &mut most));
+    print(rt, "16384 samples of a click", accepted)?;
     let mut block = [0.0f32; 64];
-    let zeros = Transient::ZERO.render(48, &mut block);
-    print(rt, "64 samples of a record of zeros", number(zeros))?;
-    print(
-        rt,
-        "64 samples of a click, n 0",
-        number(clicked(0, &mut block)),
-    )?;
-    let mut late = [0.0f32; 64];
-    print(
-        rt,
-        "64 samples of a click, n 64",
-        number(clicked(64, &mut late)),
-    )?;
-    print(
-        rt,
-        "64 samples of a click, n the largest",
-        number(clicked(usize::MAX, &mut block)),
-    )?;
+    let zeros = number(Transient::ZERO.render(48, &mut block));
+    print(rt, "64 samples of a record of zeros", zeros)
+}
+
+// Any n: what it has above the length makes no difference.
+fn print_fed(rt: &HostRuntime) -> io::Result<()> {
+    let mut block = [0.0f32; 64];
+    let none = number(clicked(0, &mut block));
+    print(rt, "64 samples of a click, n 0", none)?;
+    let mut all = [0.0f32; 64];
+    let exactly = number(clicked(64, &mut all));
+    print(rt, "64 samples of a click, n 64", exactly)?;
+    let above = number(clicked(usize::MAX, &mut block));
+    print(rt, "64 samples of a click, n the largest", above)?;
+    let differing = differing(&all, &block);
     print(
         rt,
         "samples in which n 64 and n the largest differ",
-        differing(&late, &block),
+        differing,
     )
 }
 
@@ -220,6 +210,7 @@ fn main(rt: HostRuntime) -> io::Result<()> {
     print_unstarted(&rt)?;
 
     print_clicks(&rt)?;
+    print_fed(&rt)?;
     print_parts(&rt)?;
 
     let mut one = [0.0f32; 1];

@@ -1,4 +1,4 @@
--- The block form: click and hiss over a block, the Rust's `let transient = self.click.process(..) + self.noise.render();`. Definitions only.
+-- The block form: click plus hiss, which in the Rust is `transient`, the sum that `SyntheticBassDrum` makes at each turn of its loop. Definitions only.
 use Rattle.std.specs.Prelude.{ℕ, ◌-◌, min, List, [], ◌++◌, length, replicate, Float}
 use Rattle.ieee754.specs.Single.{◌⊕◌, decimal}
 use Rattle.block.specs.declared.Turn.{Turn}
@@ -18,7 +18,7 @@ initialized self sample_rate_hz = record { click = Click.initialized self.click 
 abbrev pub init : SyntheticBassDrumTransient → Float → Call SyntheticBassDrumTransient
 init self sample_rate_hz = call (ask (is_sample_rate sample_rate_hz) 1 0) (initialized self sample_rate_hz) [] self []
 
--- a sample: the click, fed in_, plus the hiss
+-- `let transient = self.click.process(` of what the click is fed, `) + self.noise.render();`
 unfoldable pub turn : SyntheticBassDrumTransient → Float → Turn SyntheticBassDrumTransient
 turn self in_ =
     let click = Click.process self.click in_ in
@@ -28,11 +28,11 @@ turn self in_ =
       next = record { click = click.click; attack_noise = hiss.attack_noise; noise = hiss.noise };
     }
 
--- what the click is fed in a block of `size` samples: 0.0 for its first n samples and 1.0 afterwards
+-- what the click is fed in a block of size samples: 0.0 for its first n samples and 1.0 afterwards
 unfoldable pub fed : ℕ → ℕ → List Float
 fed n size = replicate (min n size) (decimal 0 0) ++ replicate (size - n) (decimal 1 0)
 
--- nothing here depends on the rate, and only the block's length is asked
+-- only the block's length is asked: no turn reads the rate that the click stores
 abbrev pub render : SyntheticBassDrumTransient → ℕ → List Float → Call SyntheticBassDrumTransient
 render self n out =
     let inputs = fed n (length out) in

@@ -24,10 +24,11 @@
 // CLICK
 // For when the stick is let go there is a transient: the click and the hiss of the Rust's synthetic bass drum, whose other parts are not
 // here. It starts from its zero record, then `init`, and then comes `render`, block after block. Each sample is click plus hiss.
-// The click is what a rise of its input gives: `render` feeds it 0.0 for the first n samples of the block and 1.0 afterwards. In the block
-// that begins as the stick is let go, n is a millisecond or so; in each block after that it is what is left (BLOCKS), and soon 0.
-// The hiss does not end by itself: fade the samples out, as the Rust's envelope does, which is held for a millisecond, then multiplied by
-// 1 - 1 / (0.005 * rate) a sample, and smoothed. That the stick was let go is queued as a strike is.
+// `render` feeds the click 0.0 for the first n samples of the block and 1.0 afterwards, and it clicks where that rises. So n is the sample
+// at which the stick is let go: the block's length, or anything above, while it is held, and 0 in the blocks after. `init` leaves the click
+// as if it had been fed 0.0. To fall from 1.0 to 0.0 is heard too, not half as high.
+// The hiss goes on by itself, and begins with a thump after `init`. So multiply the samples by a level: 0.0 until the stick is let go, and
+// then one that fades, as the Rust's envelope does, by 1 - 1 / (0.005 * rate) a sample. That the stick was let go is queued as a strike is.
 //
 // THREADS
 // One thread at a time owns a record; calls with different records may run at once. The stick's thread knows when a sound begins, the
@@ -91,9 +92,9 @@
 //
 // STACK
 // A call takes at most BECHULLPI_STACK_.. bytes, as below, of its caller's stack, arguments and answer included; a click's are among the
-// voices'. console/stack.c measures on memory that is painted before each call: some 140 bytes for a number or a filter, 150 for a click,
-// 1,450 for a voice, 67,300 for a sheet (gcc 12, the library as console/build makes it). It fails where a figure is passed. What is above
-// that is room for the dynamic linker: binding memcpy on its first call took 2,600 bytes more.
+// voices'. console/stack.c measures on memory that is painted before each call: some 140 bytes for a number or a filter, 1,450 for a voice,
+// 67,300 for a sheet (gcc 12, the library as console/build makes it). It fails where a figure is passed. What is above that is room for the
+// dynamic linker: binding memcpy on its first call took 2,600 bytes more.
 #ifndef BECHULLPI_H
 #define BECHULLPI_H
 

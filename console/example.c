@@ -12,7 +12,6 @@
 
 enum { BLOCK = 64, BLOCKS = 750 }; // a second
 enum { CUE = 14400 };              // 0.3 seconds
-enum { FALL = 48 };                // a millisecond: the click falls before it rises
 enum { LONGEST = 16384 };          // of a block, and of a sheet
 static const float RATE = 48000.0f;
 static const float DECAY = 0.4f; // of the synthetic snare and the hi-hat on the ride, struck and run
@@ -28,8 +27,8 @@ typedef struct {
 
 // All that the stick and the sound loop have in common: for each sound the strike that waits. The stick alone puts, the sound loop alone takes. A strike is one
 // word, so nobody meets half of one, and there is no lock to wait for. A sound needs one place, so the queue is never full: of accepted strikes with no run
-// between them the last counts, so a new one takes the place of one that waits, and nothing that would be heard is lost. A click begins where a
-// block does, so it needs no second place either. What is put must be in range: a strike that will be refused would take the place of one that would be heard.
+// between them the last counts, so a new one takes the place of one that waits, and nothing that would be heard is lost. A click begins where a block does, so it
+// needs no second place either. What is put must be in range: a strike that will be refused would take the place of one that would be heard.
 typedef struct {
     _Atomic uint64_t waiting[SOUNDS];
 } queue;
@@ -102,8 +101,7 @@ static void move_stick(queue *q, int block)
 // The click and the hiss, with what their record does not hold.
 typedef struct {
     bechullpi_synthetic_bass_drum_transient transient;
-    size_t n;    // the samples for which the click is still fed 0.0
-    float level; // fades, since the hiss does not end by itself
+    float level; // fades once the stick is let go, since the hiss goes on by itself; 0.0 while nothing of it is to be heard
 } click;
 
 // What the sound loop keeps between blocks: the records. Each sound that draws noise has the state of it in its own.
@@ -129,7 +127,7 @@ static uint32_t start(kit *k)
     bechullpi_hihat_answered h = bechullpi_hihat_init(bechullpi_hihat_zero(), RATE);
     bechullpi_synthetic_bass_drum_transient_answered t =
         bechullpi_synthetic_bass_drum_transient_init(bechullpi_synthetic_bass_drum_transient_zero(), RATE);
-    *k = (kit){b.voice, s.voice, y.voice, h.voice, {t.transient, 0, 0.0f}};
+    *k = (kit){b.voice, s.voice, y.voice, h.voice, {t.transient, 0.0f}};
     return b.number ? b.number : s.number ? s.number : y.number ? y.number : h.number ? h.number : t.number;
 }
 
@@ -150,7 +148,7 @@ static uint32_t strike_kit(kit *k, queue *q)
     if (take(q, HIHAT, &now))
         h = bechullpi_hihat_strike(k->hihat, now.accent, now.decay);
     if (take(q, CLICK, &now))
-        k->click = (click){k->click.transient, FALL, now.accent};
+        k->click.level = now.accent;
     *k = (kit){b.voice, s.voice, y.voice, h.voice, k->click};
     return b.number ? b.number : s.number ? s.number : y.number ? y.number : h.number;
 }
@@ -177,20 +175,19 @@ static uint32_t run_kit(kit *k, float part[SOUNDS][BLOCK])
     return b.number ? b.number : s.number ? s.number : y.number ? y.number : h.number;
 }
 
-// One block of click and hiss at their level. It fades as the Rust's envelope does before that is smoothed, and is held while the click falls. Below a step of
-// a converter of 24 bits it ends: it would come to subnormal numbers, which are slow. What the block leaves of n is for the next one.
+// One block of click and hiss at their level. Here the stick is let go where a block begins: from then on the click is fed 1.0, until the level has faded, and
+// otherwise 0.0. A console that knows the sample at which it was let go gives that for n. The level fades as the Rust's envelope does before that is smoothed, and
+// ends below half a step of a converter of 24 bits: it would come to subnormal numbers, which are slow.
 static uint32_t render_click(click *c, float part[BLOCK])
 {
-    bechullpi_synthetic_bass_drum_transient_answered t = bechullpi_synthetic_bass_drum_transient_render(c->transient, c->n, part, BLOCK);
+    size_t n = c->level > 0.0f ? 0 : BLOCK;
+    bechullpi_synthetic_bass_drum_transient_answered t = bechullpi_synthetic_bass_drum_transient_render(c->transient, n, part, BLOCK);
     if (t.number != 0)
         return t.number;
     c->transient = t.transient;
     for (int i = 0; i < BLOCK; i++) {
-        if (c->n > 0)
-            c->n--;
-        else
-            c->level = c->level < 0x1p-24f ? 0.0f : c->level * (1.0f - 1.0f / (0.005f * RATE));
         part[i] *= c->level;
+        c->level = c->level < 0x1p-24f ? 0.0f : c->level * (1.0f - 1.0f / (0.005f * RATE));
     }
     return 0;
 }
@@ -271,7 +268,7 @@ static void be_refused(const kit *k)
     printf("an accent of 1.5 is refused by %" PRIu32 "; the rest is %s\n", h.number, kept ? "as it was" : "CHANGED");
 }
 
-static bechullpi_hihat_knobs hiss(void)
+static bechullpi_hihat_knobs slip(void)
 {
     return (bechullpi_hihat_knobs){.accent = 0.8f, .f0 = 420.0f / RATE, .tone = 0.6f, .decay = 0.6f, .noisiness = 0.5f, .resonance = true};
 }
@@ -279,19 +276,19 @@ static bechullpi_hihat_knobs hiss(void)
 static bechullpi_hihat_answered struck(void)
 {
     bechullpi_hihat_answered h = bechullpi_hihat_init(bechullpi_hihat_zero(), RATE);
-    return h.number ? h : bechullpi_hihat_strike(h.voice, hiss().accent, hiss().decay);
+    return h.number ? h : bechullpi_hihat_strike(h.voice, slip().accent, slip().decay);
 }
 
 // A strike, a run that is refused, and a good run: the strike stands, so the good run sounds as if it came straight after the strike.
 static void be_refused_once_struck(void)
 {
     float late[BLOCK] = {0.0f}, straight[BLOCK] = {0.0f};
-    bechullpi_hihat_knobs unfit = hiss();
+    bechullpi_hihat_knobs unfit = slip();
     unfit.f0 = 0.75f;
     bechullpi_hihat_answered h = struck();
     bechullpi_hihat_answered refused = bechullpi_hihat_run(h.voice, BECHULLPI_SWING_VCA, unfit, late, BLOCK);
-    bechullpi_hihat_answered good = bechullpi_hihat_run(refused.voice, BECHULLPI_SWING_VCA, hiss(), late, BLOCK);
-    bechullpi_hihat_answered alone = bechullpi_hihat_run(h.voice, BECHULLPI_SWING_VCA, hiss(), straight, BLOCK);
+    bechullpi_hihat_answered good = bechullpi_hihat_run(refused.voice, BECHULLPI_SWING_VCA, slip(), late, BLOCK);
+    bechullpi_hihat_answered alone = bechullpi_hihat_run(h.voice, BECHULLPI_SWING_VCA, slip(), straight, BLOCK);
     printf("a strike is answered %" PRIu32 ", and a run at f0 0.75 is refused by %" PRIu32 "\n", h.number, refused.number);
     printf("the run after that is answered %" PRIu32 ": digest %08" PRIx32 "\n", good.number, digest_of(late, BLOCK));
     printf("straight after the strike it is answered %" PRIu32 ": digest %08" PRIx32 "\n", alone.number, digest_of(straight, BLOCK));
@@ -302,7 +299,7 @@ static void be_struck_twice(void)
 {
     bechullpi_hihat_answered unstruck = bechullpi_hihat_init(bechullpi_hihat_zero(), RATE);
     bechullpi_hihat_answered first = bechullpi_hihat_strike(unstruck.voice, 1.0f, 0.1f);
-    bechullpi_hihat_answered second = bechullpi_hihat_strike(first.voice, hiss().accent, hiss().decay);
+    bechullpi_hihat_answered second = bechullpi_hihat_strike(first.voice, slip().accent, slip().decay);
     bechullpi_hihat_answered alone = struck();
     bool same = memcmp(&second.voice, &alone.voice, sizeof alone.voice) == 0;
     printf("two strikes in a row leave %s\n", same ? "what the last leaves alone" : "SOMETHING ELSE");
@@ -316,13 +313,14 @@ static void play_cue(size_t length)
     bechullpi_hihat_answered h = struck();
     for (size_t at = 0; at < CUE && h.number == 0; at += length) {
         size_t left = CUE - at;
-        h = bechullpi_hihat_run(h.voice, BECHULLPI_SWING_VCA, hiss(), out + at, left < length ? left : length);
+        h = bechullpi_hihat_run(h.voice, BECHULLPI_SWING_VCA, slip(), out + at, left < length ? left : length);
     }
     uint32_t d = digest_of(out, CUE);
     printf("a cue in blocks of %zu is answered %" PRIu32 ": digest %08" PRIx32 ", noise %08" PRIx32 "\n", length, h.number, d, h.voice.noise);
 }
 
-// A click in blocks of a length is the same at every length too. The record is handed on, and what is left of n: here a block of 64 and one of 441 leave some.
+// A click in blocks of a length is the same at every length too. The stick is let go at sample 480: a block that ends before leaves the rest of that to the next
+// one, and the record is handed on.
 static void play_click(size_t length)
 {
     static float out[CUE];
@@ -345,7 +343,7 @@ static void be_refused_for_length(const kit *k)
     for (size_t i = 0; i <= LONGEST; i++)
         out[i] = before[i] = 0.25f;
     bechullpi_synthetic_bass_drum_transient was = k->click.transient;
-    bechullpi_synthetic_bass_drum_transient_answered t = bechullpi_synthetic_bass_drum_transient_render(was, FALL, out, LONGEST + 1);
+    bechullpi_synthetic_bass_drum_transient_answered t = bechullpi_synthetic_bass_drum_transient_render(was, 0, out, LONGEST + 1);
     bool kept = memcmp(&t.transient, &was, sizeof was) == 0 && memcmp(out, before, sizeof out) == 0;
     printf("a click of %d samples is refused by %" PRIu32 "; the rest is %s\n", LONGEST + 1, t.number, kept ? "as it was" : "CHANGED");
 }

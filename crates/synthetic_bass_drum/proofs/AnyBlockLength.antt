@@ -9,13 +9,12 @@ use lib.ListN.{length, length-append, replicate-append-replicate}
 use lib.Ieee.{Float}
 use Rattle.std.proofs.lemmas.Bool.{cases_lt}
 use Rattle.block.proofs.Blocks.{scan-append, scanned-append}
-use Rattle.refusal.specs.Rows.{both}
+use Rattle.refusal.specs.Rows.{InRows}
 use Rattle.refusal.specs.Refusal.{ask, is_block_length}
 use Rattle.refusal.proofs.ByNumber.{shorter}
 use Rattle.refusal.proofs.Rows.{in_rows}
-use Rattle.synthetic_bass_drum.specs.Transient.{fed, render}
+use Rattle.synthetic_bass_drum.specs.Transient.{fed}
 use Rattle.synthetic_bass_drum.specs.AnyBlockLength.{counted, AnyBlockLength}
-use Rattle.synthetic_bass_drum.specs.declared.SyntheticBassDrumTransient.{SyntheticBassDrumTransient}
 
 module _ (n a b : ℕ) where
   -- the first a samples use up n, or do not
@@ -38,7 +37,8 @@ module _ (n a b : ℕ) where
   fed-add : fed n (a + b) ≡ fed n a ++ fed (n - a) b
   fed-add = cut (cases_lt n a)
 
-module _ (t : SyntheticBassDrumTransient) (n : ℕ) (a b : List Float) (h : (render t n (a ++ b)).number ≡ 0) where
+-- the parts of an accepted block are accepted
+module _ (a b : List Float) (h : ask (is_block_length (length (a ++ b))) 2 0 ≡ 0) where
   whole : ask (is_block_length (length a + length b)) 2 0 ≡ 0
   whole = rw length-append at h
 
@@ -48,13 +48,10 @@ module _ (t : SyntheticBassDrumTransient) (n : ℕ) (a b : List Float) (h : (ren
   second : ask (is_block_length (length b)) 2 0 ≡ 0
   second = shorter (length b) (length a + length b) 0 (omega arith) whole
 
-  two : render t n (a ++ b) ≡ both (render t n a) (render (render t n a).state (n - length a) b)
-  two = rw (length-append, whole, first, second, fed-add, scanned-append, scan-append)
-
-  two_counted : counted (t, n) (a ++ b) ≡ both (counted (t, n) a) (counted (counted (t, n) a).state b)
-  two_counted =
-      let unused : n - (length a + length b) ≡ n - length a - length b = omega arith in
-      rw (length-append, whole, first, second, fed-add, scanned-append, scan-append, unused)
-
 pub any_block_length : AnyBlockLength
-any_block_length = record { two = two; rows = in_rows counted (λ s a b h. two_counted s.0 s.1 a b h) }
+any_block_length t n a b h = rw (length-append, whole a b h, first a b h, second a b h, fed-add, scanned-append, scan-append)
+
+pub any_block_lengths : InRows counted
+any_block_lengths = in_rows counted (λ s a b h.
+    let unused : s.1 - (length a + length b) ≡ s.1 - length a - length b = omega arith in
+    rw (length-append, whole a b h, first a b h, second a b h, fed-add, scanned-append, scan-append, unused))

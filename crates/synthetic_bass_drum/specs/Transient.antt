@@ -1,4 +1,4 @@
--- The block form: click plus hiss, which in the Rust is `transient`, the sum that `SyntheticBassDrum` makes at each turn of its loop. Definitions only.
+-- The block form: click plus hiss, which in the Rust is `transient`, the sum that `SyntheticBassDrum` makes at each turn that does not sustain. Definitions only.
 use Rattle.std.specs.Prelude.{ℕ, ◌-◌, min, List, [], ◌++◌, length, replicate, Float}
 use Rattle.ieee754.specs.Single.{◌⊕◌, decimal}
 use Rattle.block.specs.declared.Turn.{Turn}

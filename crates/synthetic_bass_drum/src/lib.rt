@@ -151,7 +151,6 @@ impl SyntheticBassDrumTransient {
         Ok(self.initialized(sample_rate_hz))
     }
 
-    #[tactic(auto, unfolding(crate::specs::Transient::initialized))]
     fn initialized(self, sample_rate_hz: f32) -> Self
         ensures { result ≡ Transient.initialized self sample_rate_hz }
     {

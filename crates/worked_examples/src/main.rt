@@ -117,24 +117,29 @@ fn print_clicks(rt: &HostRuntime) -> io::Result<()> {
     print(rt, "16384 samples of a click", accepted)?;
     let mut block = [0.0f32; 64];
     let zeros = number(Transient::ZERO.render(48, &mut block));
-    print(rt, "64 samples of a record of zeros", zeros)
+    print(rt, "64 samples of a click's record of zeros", zeros)
 }
 
-// Any n: what it has above the length makes no difference.
+// Any n. In the first sample, fed 1.0 or 0.0, the two clicks differ already; what n has above the length makes no difference.
 fn print_fed(rt: &HostRuntime) -> io::Result<()> {
-    let mut block = [0.0f32; 64];
-    let none = number(clicked(0, &mut block));
-    print(rt, "64 samples of a click, n 0", none)?;
+    let mut none = [0.0f32; 64];
+    let at_once = number(clicked(0, &mut none));
+    print(rt, "64 samples of a click, n 0", at_once)?;
     let mut all = [0.0f32; 64];
     let exactly = number(clicked(64, &mut all));
     print(rt, "64 samples of a click, n 64", exactly)?;
-    let above = number(clicked(usize::MAX, &mut block));
+    let mut beyond = [0.0f32; 64];
+    let above = number(clicked(usize::MAX, &mut beyond));
     print(rt, "64 samples of a click, n the largest", above)?;
-    let differing = differing(&all, &block);
+    print(
+        rt,
+        "samples in which n 0 and n 64 differ",
+        differing(&none, &all),
+    )?;
     print(
         rt,
         "samples in which n 64 and n the largest differ",
-        differing,
+        differing(&all, &beyond),
     )
 }
 

@@ -5,4 +5,4 @@ use Rattle.synthetic_bass_drum.proofs.SyntheticBassDrumClick.initialized.Goals a
 
 pub returns : goal.returns
 unfolding initialized round of_bits
-returns c = rw (c.set_f_q-filter.ensures, c.init-filter.ensures)
+returns c = cc

@@ -3,7 +3,7 @@ use Rattle.std.specs.Prelude.{ℕ, ◌-◌, min, List, [], ◌++◌, length, rep
 use Rattle.ieee754.specs.Single.{◌⊕◌, decimal}
 use Rattle.block.specs.declared.Turn.{Turn}
 use Rattle.block.specs.Block.{scan, scanned}
-use Rattle.refusal.specs.Refusal.{Call, call, ask, is_block_length, is_sample_rate}
+use Rattle.refusal.specs.Refusal.{Call, call, ask, is_block_length}
 use Rattle.synthetic_bass_drum.specs.Click as Click
 use Rattle.synthetic_bass_drum.specs.AttackNoise as AttackNoise
 use Rattle.synthetic_bass_drum.specs.declared.SyntheticBassDrumTransient.{SyntheticBassDrumTransient}
@@ -12,11 +12,10 @@ unfoldable pub ZERO : SyntheticBassDrumTransient
 ZERO = record { click = Click.ZERO; attack_noise = AttackNoise.init; noise = 0 }
 
 -- `self.click.init(sample_rate_hz); self.noise.init();`; 33 is the first state of the noise, `static RNG_STATE: AtomicU32 = AtomicU32::new(0x21);`
-unfoldable pub initialized : SyntheticBassDrumTransient → Float → SyntheticBassDrumTransient
-initialized self sample_rate_hz = record { click = Click.initialized self.click sample_rate_hz; attack_noise = AttackNoise.init; noise = 33 }
-
 abbrev pub init : SyntheticBassDrumTransient → Float → Call SyntheticBassDrumTransient
-init self sample_rate_hz = call (ask (is_sample_rate sample_rate_hz) 1 0) (initialized self sample_rate_hz) [] self []
+init self sample_rate_hz =
+    let click = Click.init self.click sample_rate_hz in
+    call click.number (record { click = click.state; attack_noise = AttackNoise.init; noise = 33 }) [] self []
 
 -- `let transient = self.click.process(` of what the click is fed, `) + self.noise.render();`
 unfoldable pub turn : SyntheticBassDrumTransient → Float → Turn SyntheticBassDrumTransient

@@ -140,25 +140,20 @@ impl SyntheticBassDrumTransient {
         noise: 0,
     };
 
-    // Both parts from their `init`. The noise state is the one that the Rust's begins with, 0x21.
+    // Both parts from their `init`, the click's with its question. The noise state is the one that the Rust's begins with, 0x21.
     pub fn init(self, sample_rate_hz: f32) -> Result<Self, Refused<Self>>
         ensures number { call_number result ≡ (Transient.init self sample_rate_hz).number }
         ensures transient { call_voice result ≡ (Transient.init self sample_rate_hz).state }
     {
-        ask(is_sample_rate(sample_rate_hz), Refusal::SampleRate).map_err(|refusal| refusal.of(
-            self,
-        ))?;
-        Ok(self.initialized(sample_rate_hz))
-    }
-
-    fn initialized(self, sample_rate_hz: f32) -> Self
-        ensures { result ≡ Transient.initialized self sample_rate_hz }
-    {
-        SyntheticBassDrumTransient {
-            click: self.click.initialized(sample_rate_hz),
+        let click = self
+            .click
+            .init(sample_rate_hz)
+            .map_err(|refused| refused.refusal.of(self))?;
+        Ok(SyntheticBassDrumTransient {
+            click,
             attack_noise: self.attack_noise.init(),
             noise: 33,
-        }
+        })
     }
 
     // A block in which the click is fed 0.0 for its first n samples and 1.0 afterwards.

@@ -1,5 +1,6 @@
 -- `render` asks what the two calls ask, and where all is passed the block is the same.
 use mathlib.Core.Path.{◌≡◌, refl}
+use mathlib.Core.Bool.{true}
 use Prim.Native.Nat.{ℕ}
 use lib.ListN.{length}
 use lib.Ieee.{Float}
@@ -15,6 +16,11 @@ questions : (accent : Float) (k : Knobs) (n : ℕ)
     (render_refusal accent k n ≡ 0 → parts) × (parts → render_refusal accent k n ≡ 0)
 unfolding knobs_refusal render_refusal run_refusal
 questions accent k n = asked_in_two (is_block_length n) (is_frequency k.f0) (is_unit accent) _
+
+-- with an accent that passes its question `render` asks what a run asks, and a refused one answers the same number
+pub same_questions : (accent : Float) (k : Knobs) (n : ℕ) → is_unit accent ≡ true → render_refusal accent k n ≡ run_refusal k n
+unfolding knobs_refusal render_refusal run_refusal
+same_questions accent k n h = rw h
 
 pub strike_then_run : StrikeThenRun
 strike_then_run v accent k = record {

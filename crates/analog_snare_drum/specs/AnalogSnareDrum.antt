@@ -113,11 +113,15 @@ tuned_mode resonator f0 mode_frequency q =
     let f = minimum_number (f0 ⊗ mode_frequency) (decimal 499 3) in
     Filter.set_f_q resonator f (decimal 1 0 ⊕ f ⊗ q) Fast
 
+abbrev pub tuned_modes : List Svf → Float → Float → List Svf
+tuned_modes resonator f0 q =
+    -- `if i == 0 { q } else { q * 0.25 }`
+    let own : ℕ → Float = λ i. cond (eqb i 0) q (q ⊗ decimal 25 2) in
+    modes (λ i. tuned_mode (filter_of resonator i) f0 (get_or MODE_FREQUENCIES i nan) (own i))
+
 -- the filters are set also where the block is empty
 unfoldable pub tuned : Settings → AnalogSnareDrum → AnalogSnareDrum
 tuned b self =
-    -- `if i == 0 { q } else { q * 0.25 }`
-    let q : ℕ → Float = λ i. cond (eqb i 0) b.q (b.q ⊗ decimal 25 2) in
     let f_noise = clamp (b.f0 ⊗ decimal 16 0) (decimal 0 0) (decimal 499 3) in
     record {
       pulse_remaining_samples = self.pulse_remaining_samples;
@@ -125,7 +129,7 @@ tuned b self =
       pulse_height = self.pulse_height;
       pulse_lp = self.pulse_lp;
       noise_envelope = self.noise_envelope;
-      resonator = modes (λ i. tuned_mode (filter_of self.resonator i) b.f0 (get_or MODE_FREQUENCIES i nan) (q i));
+      resonator = tuned_modes self.resonator b.f0 b.q;
       noise_filter = Filter.set_f_q self.noise_filter f_noise (decimal 1 0 ⊕ f_noise ⊗ decimal 15 1) Fast;
       trigger_pulse_duration = self.trigger_pulse_duration;
       pulse_decay_time = self.pulse_decay_time;

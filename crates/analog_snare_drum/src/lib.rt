@@ -153,16 +153,7 @@ impl AnalogSnareDrum {
         ensures { result ≡ spec.tuned settings self }
     {
         let f0 = settings.f0;
-        // (With `from_fn`, over the calls or over one function of the place, the proof did not close.)
-        let mut resonator = [Svf::ZERO; 5];
-        for i in 0..5 {
-            let q = if i == 0 {
-                settings.q
-            } else {
-                settings.q * 0.25
-            };
-            resonator[i] = tuned_mode(self.resonator[i], f0, MODE_FREQUENCIES[i], q);
-        }
+        let resonator = tuned_modes(self.resonator, f0, settings.q);
         let f_noise = ieee754::clamp(f0 * 16.0, 0.0, 0.499);
         let noise_filter = self
             .noise_filter
@@ -233,13 +224,12 @@ impl AnalogSnareDrum {
             && ieee754::is_same(e.pulse_lp, self.pulse_lp)
     }
 
-    // What is left of the turn.
+    // What is left of the turn. The noise comes before the shell, otherwise than in the Rust: with the shell first it takes more instructions a sample
+    // (docs/DECISIONS.md).
     fn step(self, settings: Settings, e: Excitation) -> Turn<Self>
         requires { e ≡ excitation self }
         ensures { result ≡ spec.step settings self }
     {
-        let shell = self.shell_output(settings, e.first, e.other);
-
         // C56 / R194 / Q48 / C54 / R188 / D54
         let draw = random::get_float(self.noise);
         let drawn = not_negative(2.0 * draw.value - 1.0);
@@ -250,6 +240,8 @@ impl AnalogSnareDrum {
             drawn * (noise_envelope * settings.snappy * 2.0),
             FilterMode::BandPass,
         );
+
+        let shell = self.shell_output(settings, e.first, e.other);
         let resonator = shell.resonator;
         let noise_filter = filtered.filter;
         Turn {
@@ -318,8 +310,20 @@ fn not_negative(noise: f32) -> f32
     if noise < 0.0 { 0.0 } else { noise }
 }
 
-// A function by itself: with it written out in `run`, five times, the compiler pairs the filters' products in the loop worse (docs/DECISIONS.md).
+// A function by itself: with it written out in `run`, the compiler pairs the filters' products in the loop worse (docs/DECISIONS.md).
 #[inline(never)]
+fn tuned_modes(resonator: [Svf; 5], f0: f32, q: f32) -> [Svf; 5]
+    ensures { result ≡ spec.tuned_modes resonator f0 q }
+{
+    // (With `from_fn`, over the calls or over one function of the place, the proof did not close.)
+    let mut tuned = [Svf::ZERO; 5];
+    for i in 0..5 {
+        let q = if i == 0 { q } else { q * 0.25 };
+        tuned[i] = tuned_mode(resonator[i], f0, MODE_FREQUENCIES[i], q);
+    }
+    tuned
+}
+
 fn tuned_mode(resonator: Svf, f0: f32, mode_frequency: f32, q: f32) -> Svf
     ensures { result ≡ spec.tuned_mode resonator f0 mode_frequency q }
 {

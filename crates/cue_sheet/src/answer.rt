@@ -28,7 +28,9 @@ impl From<Refusal> for SheetRefusal {
 impl From<SheetRefusal> for u32 {
     ghost from_gives = { λ refusal number. number ≡ spec.number refusal };
 
-    fn from(refusal: SheetRefusal) -> u32 {
+    fn from(refusal: SheetRefusal) -> u32
+        ensures { result ≡ spec.number refusal }
+    {
         match refusal {
             SheetRefusal::Knobs(refusal) => refusal.into(),
             SheetRefusal::FirstLine => 7,

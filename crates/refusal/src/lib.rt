@@ -20,7 +20,9 @@ pub enum Refusal {
 impl From<Refusal> for u32 {
     ghost from_gives = { λ refusal n. n ≡ spec.number refusal };
 
-    fn from(refusal: Refusal) -> u32 {
+    fn from(refusal: Refusal) -> u32
+        ensures { result ≡ spec.number refusal }
+    {
         match refusal {
             Refusal::SampleRate => 1,
             Refusal::BlockLength => 2,
@@ -111,7 +113,9 @@ impl TryFrom<usize> for BlockLength {
 
     ghost try_from_gives = { LengthAsked };
 
-    fn try_from(samples: usize) -> Result<Self, Refusal> {
+    fn try_from(samples: usize) -> Result<Self, Refusal>
+        ensures { LengthAsked samples result }
+    {
         ask(is_block_length(samples), Refusal::BlockLength)?;
         Ok(BlockLength(samples as u32))
     }

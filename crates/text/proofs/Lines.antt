@@ -36,6 +36,10 @@ module _ (p : ℕ → Bool) (l : List ℕ) where
       go true h e = let z : ◌≡◌ {A = ℕ} 0 1 = cc in absurd (omega arith)
       go false h e = ltb-false _ _ h
 
+  -- it is past the end by none
+  pub place_none : None ≡ position p l → position_or_len p l ≡ length l
+  place_none e = position_or_len_is p l (length l) 0 (omega arith) (λ k h. fails_before_first p l k 0 (omega (arith, no_place e))) (λ h. absurd (omega arith))
+
 -- the same, as a loop finds it that has passed by what lies before place i
 module _ (p : ℕ → Bool) (l : List ℕ) (i : ℕ) (before : (k : ℕ) → k < i → p (get_or l k 0) ≡ false) where
   pub found_at : i < length l → p (get_or l i 0) ≡ true → Some i ≡ position p l
@@ -51,6 +55,10 @@ after : (k : ℕ) (l : List ℕ) → drop (length (take k l)) l ≡ drop k l
 after zero l = refl
 after (suc k) [] = refl
 after (suc k) (x ∷ l) = after k l
+
+-- what is left from a place on, as the code cuts it
+pub left : (at : ℕ) (l : List ℕ) → take (length l - at) (drop at l) ≡ drop at l
+left at l = take_all (length l - at) (drop at l) (omega (arith, length-drop at l))
 
 -- ---- the first line, and what comes after it
 module _ (text : List ℕ) where

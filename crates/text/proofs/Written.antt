@@ -45,6 +45,9 @@ whole {out} {text} {out'} {end} w fits =
     let stop : end ≡ length text = omega (arith, w.place) in
     record { contents = w.contents ∙ sets-eq text out 0 (omega arith) ∙ rw (zero-add, stop); place = stop }
 
+pub end_inside : {out text out' : List ℕ} {end : ℕ} → Whole out text end out' → end ≤ length out'
+end_inside w = rw w.contents (simp length-append (omega (arith, w.place)))
+
 -- ---- a writer
 
 -- before it writes

@@ -1,7 +1,7 @@
 -- Lines, fields and numbers read from text. Definitions only.
-use Rattle.std.specs.Prelude.{ℕ, ◌+◌, ◌-◌, ◌*◌, Bool, true, false, not, cond, List, [], ◌∷◌, ltb, leb, eqb, length, get_or, take, Option, Some, None, option_and_then, position}
+use Rattle.std.specs.Prelude.{ℕ, ◌+◌, ◌-◌, ◌*◌, Bool, true, false, not, cond, List, [], ◌∷◌, ltb, leb, eqb, length, get_or, take, drop, Option, Some, None, option_and_then, position}
 use Prim.Native.Char.{code}
-use Rattle.std.specs.List.{slice_split, onto_first}
+use Rattle.std.specs.List.{slice_split, onto_first, position_or_len}
 use Rattle.text.specs.Write.{ascii}
 
 -- ---- lines
@@ -23,6 +23,10 @@ lines (x ∷ xs) = cond (eqb x (code "\n")) ((x ∷ []) ∷ lines xs) (onto_firs
 unfoldable pub first_line : List ℕ → List ℕ
 first_line text = get_or (lines text) 0 []
 
+-- the line that starts at a place of a text; empty at its end
+unfoldable pub line_at : ℕ → List ℕ → List ℕ
+line_at at text = first_line (drop at text)
+
 -- ---- fields
 
 -- the fields of a line: what stands between its commas, one more than there are commas
@@ -32,6 +36,10 @@ fields line = slice_split (λ x. eqb x (code ",")) line
 -- field k of a line, counted from 0
 unfoldable pub field : ℕ → List ℕ → List ℕ
 field k line = get_or (fields line) k []
+
+-- the end of the field that starts at a place of a line: the place of the next comma, or the line's end
+abbrev pub field_end : ℕ → List ℕ → ℕ
+field_end at line = at + position_or_len (λ x. eqb x (code ",")) (drop at line)
 
 -- exactly n fields
 abbrev pub has_fields : ℕ → List ℕ → Bool

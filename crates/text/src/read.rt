@@ -1,5 +1,5 @@
 // Lines, fields and numbers read from text.
-ghost use Rattle.std.specs.Prelude.{◌≡◌, ◌≤◌, ◌<◌, ◌==◌, [], ◌∷◌, true, false, length, drop, MatchOption, position};
+ghost use Rattle.std.specs.Prelude.{◌≡◌, ◌+◌, ◌≤◌, ◌<◌, ◌==◌, [], ◌∷◌, true, false, max, length, drop, MatchOption, position};
 ghost use Rattle.text.specs.Read as Read;
 
 // A text without the line end that it ends in.
@@ -8,6 +8,21 @@ pub fn without_end(text: &[u8]) -> Option<&[u8]>
     ensures { MatchOption result (Read.ended text.now ≡ false) (λ t. (Read.ended text.now ≡ true) × (t.now ≡ Read.body text.now)) }
 {
     text.strip_suffix(b"\n")
+}
+
+// Does a text end in a line end?
+pub fn ended(text: &[u8]) -> bool
+    ensures { result ≡ Read.ended text.now }
+{
+    without_end(text).is_some()
+}
+
+// A text without its last byte, whatever that is.
+#[tactic(auto, unfolding(crate::specs::Read::body))]
+pub fn body(text: &[u8]) -> &[u8]
+    ensures { result.now ≡ Read.body text.now }
+{
+    &text[..text.len().saturating_sub(1)]
 }
 
 // The place of the first byte b. (The library's `position` was tried: with it a sheet is read by 6 % more instructions.)
@@ -39,6 +54,33 @@ pub fn split_field(line: &[u8]) -> Option<(&[u8], &[u8])>
 {
     let comma = find(line, b',')?;
     Some((&line[..comma], &line[comma + 1..]))
+}
+
+// The same two over the places of one text. Any place is one, past the end too.
+
+// The place after the line that starts at `at`, its line end included; `at` itself where nothing is left.
+pub fn line_end(text: &[u8], at: usize) -> usize
+    ensures { result ≡ at + length (Read.line_at at text.now) }
+{
+    if at > text.len() {
+        return at;
+    }
+    let (line, _) = split_line(&text[at..]);
+    at + line.len()
+}
+
+// The end of the field that starts at `at`: the place of the next comma, or the line's end.
+pub fn field_end(line: &[u8], at: usize) -> usize
+    ensures value { result ≡ Read.field_end at line.now }
+    ensures within { (at ≤ result) × (result ≤ max at (length line.now)) }
+{
+    if at > line.len() {
+        return at;
+    }
+    match find(&line[at..], b',') {
+        Some(place) => at + place,
+        None => line.len(),
+    }
 }
 
 // What a digit stands for. (The library's `to_digit` takes capitals too.)

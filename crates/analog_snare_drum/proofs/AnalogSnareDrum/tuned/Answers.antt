@@ -1,36 +1,8 @@
--- Mode after mode; the frequencies are those of the definition.
-use borrow.Author.Tests.{ne_eqb}
-use native.Mathlib.Omega.{arith}
-use native.Mathlib.Numerals.{add-one}
-use mathlib.Core.Path.{◌≡◌, refl, ◌∙◌}
-use mathlib.Core.Bool.{cond}
-use lib.Dec.{eqb}
+-- The calls' values in the definition's record.
 use lib.Ieee.{round, of_bits}
-use Rattle.ieee754.specs.Single.{◌⊗◌, decimal}
-use Rattle.filter.specs.Svf.{ZERO}
-use Rattle.analog_snare_drum.specs.AnalogSnareDrum.{tuned, MODE_FREQUENCIES}
-use Rattle.analog_snare_drum.proofs.Tuning.{all}
+use Rattle.analog_snare_drum.specs.AnalogSnareDrum.{tuned}
 use Rattle.analog_snare_drum.proofs.AnalogSnareDrum.tuned.Goals as goal
-use Rattle.analog_snare_drum.proofs.AnalogSnareDrum.tuned.Goals.{then-i-eq0, else-i-eq0}
-
-pub loop-i-init : goal.loop-i-init
-unfolding ZERO round of_bits
-loop-i-init c = refl
-
-pub loop-i-preserved : goal.loop-i-preserved
-unfolding MODE_FREQUENCIES round of_bits
-loop-i-preserved c =
-    let b = c.args.settings in
-    let q : c.if-i-eq0.q ≡ cond (eqb c.loop-i.i 0) b.q (b.q ⊗ decimal 25 2) =
-    elim c.if-i-eq0.branch [
-      | then-i-eq0 w ↦ rw (w.q-is, w.if-i-eq0.true) refl
-      | else-i-eq0 w ↦ rw (w.q-is, ne_eqb c.loop-i.i 0 w.if-i-eq0.false) refl
-    ] in
-    rw (add-one, ← c.loop-i.invariant, c.tuned_mode.ensures, q) refl
 
 pub returns : goal.returns
 unfolding tuned round of_bits
-returns c =
-    let five : c.loop-i.i ≡ 5 = omega arith in
-    let tuned = rw five at c.loop-i.invariant in
-    rw (c.set_f_q-noise_filter.ensures, c.clamp-f_noise.ensures, tuned ∙ all c.args.settings c.args.self.resonator)
+returns c = rw (c.set_f_q-noise_filter.ensures, c.clamp-f_noise.ensures, c.tuned_modes-resonator.ensures)

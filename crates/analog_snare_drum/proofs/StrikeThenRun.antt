@@ -17,7 +17,7 @@ questions : (accent : Float) (k : Knobs) (n : ℕ)
 unfolding knobs_refusal render_refusal run_refusal
 questions accent k n = asked_in_two (is_block_length n) (is_frequency k.f0) (is_unit accent) _
 
--- with an accent that passes its question `render` asks what a run asks, and a refused one answers the same number
+-- where the accent passes its question, `render` asks what a run asks: the two have one number, 0 or that of a refusal
 pub same_questions : (accent : Float) (k : Knobs) (n : ℕ) → is_unit accent ≡ true → render_refusal accent k n ≡ run_refusal k n
 unfolding knobs_refusal render_refusal run_refusal
 same_questions accent k n h = rw h

@@ -1,10 +1,11 @@
 -- A strike and a run ask together what a triggered `render` asks: the questions of a call that is accepted, asked in two. And the last of two strikes counts.
 use mathlib.Core.Path.{◌≡◌, refl}
-use mathlib.Core.Bool.{Bool}
+use mathlib.Core.Bool.{Bool, true}
 use mathlib.Core.List.{[]}
 use Prim.Native.Nat.{ℕ, zero, suc}
 use native.Mathlib.Omega.{arith}
-use Rattle.refusal.specs.Refusal.{call, unless_refused, ask}
+use lib.Ieee.{binary32, round, of_bits, le}
+use Rattle.refusal.specs.Refusal.{call, unless_refused, ask, is_unit, within}
 use Rattle.refusal.specs.StrikeAndRun.{LastCounts}
 use Rattle.refusal.proofs.ByNumber.{passed}
 
@@ -21,6 +22,11 @@ asked_in_two size frequency accent n = (apart, λ h. rw (passed accent 4 0 (omeg
         let tuned = passed frequency 3 _ (omega arith) sized.1 in
         let struck = passed accent 4 n (omega arith) tuned.1 in
         rw (sized.0, tuned.0, struck.0) (refl, struck.1)
+
+-- an accent of 0.0 passes its question
+pub no_accent : is_unit (of_bits binary32 0) ≡ true
+unfolding is_unit within round of_bits le
+no_accent = refl
 
 -- ---- a voice whose run asks all that its strike asks, and whose decay is the second of its other knobs
 pub asked_again : (rate size frequency accent first decay : Bool) (n : ℕ)

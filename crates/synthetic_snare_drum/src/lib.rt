@@ -105,7 +105,7 @@ impl SyntheticSnareDrum {
     }
 
     // What the Rust's `render` does where its trigger is set, and nothing else.
-    // A sheet calls it too, so that without the hint the compiler leaves it out of line for C (docs/DECISIONS.md).
+    // A sheet calls it too; without the hint the compiler then leaves it out of line for C (docs/DECISIONS.md).
     #[inline]
     pub fn strike(self, accent: f32, decay: f32) -> Result<Self, Refused<Self>>
         ensures number { call_number result ≡ (spec.strike self accent decay).number }

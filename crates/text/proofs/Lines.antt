@@ -36,7 +36,7 @@ module _ (p : ℕ → Bool) (l : List ℕ) where
       go true h e = let z : ◌≡◌ {A = ℕ} 0 1 = cc in absurd (omega arith)
       go false h e = ltb-false _ _ h
 
-  -- it is past the end by none
+  -- where no byte passes, its place is the end
   pub place_none : None ≡ position p l → position_or_len p l ≡ length l
   place_none e = position_or_len_is p l (length l) 0 (omega arith) (λ k h. fails_before_first p l k 0 (omega (arith, no_place e))) (λ h. absurd (omega arith))
 

@@ -56,9 +56,8 @@ pub fn split_field(line: &[u8]) -> Option<(&[u8], &[u8])>
     Some((&line[..comma], &line[comma + 1..]))
 }
 
-// The same two over the places of one text. Any place is one, past the end too.
-
-// The place after the line that starts at `at`, its line end included; `at` itself where nothing is left.
+// The place after the line that starts at `at`, its line end included; `at` itself where nothing is left. Here and in `field_end`, which are `split_line` and
+// `split_field` by places of one text, `at` may be past the end.
 pub fn line_end(text: &[u8], at: usize) -> usize
     ensures { result ≡ at + length (Read.line_at at text.now) }
 {
